@@ -1,0 +1,3 @@
+pub mod Test
+pub mod Occurs
+pub mod Sum

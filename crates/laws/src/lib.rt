@@ -1,0 +1,1 @@
+// Laws on lists, occurrences and rings. There is no code here.
