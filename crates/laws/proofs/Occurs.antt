@@ -5,12 +5,12 @@ use mathlib.Core.Bool.{Bool, true, false}
 use mathlib.Core.List.{List, [], _∷_, _++_}
 use lib.ListN.{length, getD, set, take, length-set}
 use lib.Seq.{getD-set-same, getD-set-other, take-suc, take-suc-set}
-use lib.Dec.{eqb}
-use native.Mathlib.Decide.{ℕ-discrete}
+use lib.Dec.{eqb, leb, ltb}
+use native.Mathlib.Decide.{ℕ-discrete, decLt}
 use native.Mathlib.Numerals.{add-one}
 use native.Mathlib.Omega.{arith}
-use borrow.Author.Tests.{eq-eqb, ne-eqb}
-use Rattle.laws.specs.Test.{pick}
+use borrow.Author.Tests.{eq-eqb, ne-eqb, le-leb, lt-leb, lt-ltb, le-ltb}
+use Rattle.laws.specs.Test.{pick, both}
 use Rattle.laws.specs.Occurs.{ind, occurs, upFrom}
 
 pub ind-le : (b : Bool) → ind b ≤ 1
@@ -79,3 +79,26 @@ unfolding upFrom
 take-upFrom first zero m h = refl
 take-upFrom first (suc n) zero h = absurd (omega arith)
 take-upFrom first (suc n) (suc m) h = ap (λ l. first ∷ l) (take-upFrom (first + 1) n m (omega arith))
+
+-- each of them stands there once
+pub occurs-upFrom : (x first n : ℕ) → occurs x (upFrom first n) ≡ ind (both (leb first x) (ltb x (first + n)))
+unfolding upFrom
+occurs-upFrom x first zero = by-case (decLt x first)
+  where
+    by-case : Dec (x < first) → 0 ≡ ind (both (leb first x) (ltb x (first + 0)))
+    by-case (yes below) = rw (lt-leb first x below)
+    by-case (no above) = rw (le-leb first x (omega arith), le-ltb x (first + 0) (omega arith))
+occurs-upFrom x first (suc n) = rw (occurs-upFrom x (first + 1) n) (by-case (ℕ-discrete x first))
+  where
+    by-case : Dec (x ≡ first)
+        → ind (eqb x first) + ind (both (leb (first + 1) x) (ltb x (first + 1 + n))) ≡ ind (both (leb first x) (ltb x (first + suc n)))
+    by-case (yes e) =
+        rw (eq-eqb x first e, lt-leb (first + 1) x (omega arith), le-leb first x (omega arith), lt-ltb x (first + suc n) (omega arith))
+    by-case (no ne) = rw (ne-eqb x first ne, later (decLt x first), moved) (omega arith)
+      where
+        moved : ltb x (first + 1 + n) ≡ ltb x (first + suc n)
+        moved = let e : first + 1 + n ≡ first + suc n = omega arith in rw e
+
+        later : Dec (x < first) → leb (first + 1) x ≡ leb first x
+        later (yes below) = rw (lt-leb (first + 1) x (omega arith), lt-leb first x below)
+        later (no above) = rw (le-leb (first + 1) x (omega (arith, ne)), le-leb first x (omega arith))

@@ -8,6 +8,9 @@ use native.Mathlib.Numerals.{add-one}
 use native.Mathlib.Omega.{arith}
 use Rattle.laws.specs.Test.{both, either, every, some}
 
+pub false-not-true : false ≡ true → ⊥
+false-not-true e = let z : _≡_ {A = ℕ} 0 1 = cc in omega arith
+
 -- ---- two tests
 
 pub both-false : (b : Bool) → both b false ≡ false
@@ -77,10 +80,7 @@ module _ (test : ℕ → Bool) where
 
   pub some-found : (n : ℕ) → some n test ≡ true → (i : ℕ) × (i < n) × (test i ≡ true)
   unfolding some
-  some-found zero e = absurd (omega (arith, never e))
-    where
-      never : false ≡ true → _≡_ {A = ℕ} 0 1
-      never z = cc
+  some-found zero e = absurd (false-not-true e)
   some-found (suc n) e = by-case (some n test) refl (λ z. some-found n z)
     where
       by-case : (b : Bool) → some n test ≡ b → (some n test ≡ true → (i : ℕ) × (i < n) × (test i ≡ true))

@@ -1,3 +1,5 @@
 pub mod Standing
 pub mod Lists
 pub mod Sound
+pub mod Packets
+pub mod Receive

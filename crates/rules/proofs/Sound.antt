@@ -18,7 +18,7 @@ use Rattle.rules.specs.declared.Account.{Account}
 use Rattle.rules.specs.Account.{handOf, listOf}
 use Rattle.rules.specs.Sound.{isSize, inRange, InRange, isGood, Good, Indices, indices, receiving, allBelow, hands, inPlace, sound, Sound, Full}
 use Rattle.rules.proofs.Standing.{inHand, Placed, Standing}
-use Rattle.rules.proofs.Lists.{list-free, list-beyond}
+use Rattle.rules.proofs.Lists.{list-free, list-out, list-beyond}
 
 -- ---- numbers
 
@@ -205,3 +205,24 @@ module _ (a : Account) where
       by-case : (h x : ℕ) → (h ≡ HAND-OUT → ⊥) → Dec (x < a .entries) → countOf h x ≡ inHand (a .entries) (a .hands) h x
       by-case h x out (yes below) = rw (lt-ltb x (a .entries) below) (m .placed x h below out)
       by-case h x out (no past) = rw (le-ltb x (a .entries) (omega arith)) (m .ids-below x h (omega arith))
+
+  -- and an account whose ids stand so is sound, if its numbers and indices are right
+  pub sound-of : InRange (a .entries) (a .size) (a .receives) (a .sends) → a .rx < SLOTS
+      → ((q : ℕ) → q < a .sends → Indices (getD (a .clean) q 0) (getD (a .tx) q 0))
+      → (a .started ≡ true → 0 < a .receives) → (a .started ≡ false → a .rx ≡ 0)
+      → Standing (a .entries) (a .free) (a .hands) countOf → Sound a
+  sound-of numbers rx queues on off s =
+      record {
+        numbers = numbers;
+        free-count = s .deep;
+        ids-below = λ x h out. by-case x h out (ℕ-discrete h HAND-OUT);
+        rx-below = rx;
+        queues = queues;
+        started-on = on;
+        not-started = off;
+        placed = λ x h l out. rw (lt-ltb x (a .entries) l) at (s .placed h x out);
+      }
+    where
+      by-case : (x h : ℕ) → a .entries ≤ x → Dec (h ≡ HAND-OUT) → occurs x (listOf a h) ≡ 0
+      by-case x h out (yes e) = rw (e, list-out a)
+      by-case x h out (no ne) = rw (le-ltb x (a .entries) out) at (s .placed h x ne)

@@ -6,7 +6,7 @@ use lib.ListN.{getD, replicate}
 use lib.Dec.{eqb, ltb}
 use Rattle.limits.specs.Limits.{ENTRIES, SENDS, SLOTS}
 use Rattle.laws.specs.Test.{pick}
-use Rattle.laws.specs.Occurs.{upFrom}
+use Rattle.laws.specs.Occurs.{occurs, sumTo, upFrom}
 use Rattle.pool.specs.declared.FreeStack.{FreeStack}
 use Rattle.pool.specs.Stack.{content}
 use Rattle.pool.specs.Hands.{HAND-FREE, HAND-RECEIVE, HAND-SEND}
@@ -56,6 +56,10 @@ listOf a hand =
     pick (eqb hand HAND-FREE)
     (freeList a)
     (pick (eqb hand HAND-RECEIVE) (receiveList a) (pick (ltb hand HAND-SEND) [] (pick (ltb (hand - HAND-SEND) (a .sends)) (sendList a (hand - HAND-SEND)) [])))
+
+-- how often an id stands in all the lists of an account
+unfoldable pub held : ℕ → Account → ℕ
+held id a = occurs id (freeList a) + occurs id (receiveList a) + sumTo (a .sends) (λ q. occurs id (sendList a q))
 
 -- ---- accounts
 
