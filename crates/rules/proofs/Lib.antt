@@ -1,5 +1,11 @@
 pub mod Standing
 pub mod Lists
 pub mod Sound
+pub mod Verdicts
 pub mod Packets
+pub mod Start
 pub mod Receive
+pub mod Queue
+pub mod Send
+pub mod Calls
+pub mod Examples

@@ -119,30 +119,29 @@ abbrev pub queued : Account → FreeStack → List ℕ → List ℕ → ℕ → 
 queued a free hands sent q clean tx = withSend a free hands sent (set (a .clean) q clean) (set (a .tx) q tx)
 
 module _ (a : Account) (free : FreeStack) (hands sent : List ℕ) (q clean tx : ℕ) where
-  pub queued-own : q < a .sends → q < length (a .clean) → q < length (a .tx)
-      → listOf (queued a free hands sent q clean tx) (HAND-SEND + q) ≡ around sent q clean (waiting tx clean)
-  queued-own below c t =
-      list-send (queued a free hands sent q clean tx) q below ∙ rw (getD-set-same (a .clean) q clean 0 c, getD-set-same (a .tx) q tx 0 t)
+  pub queued-own : q < length (a .clean) → q < length (a .tx)
+      → sendList (queued a free hands sent q clean tx) q ≡ around sent q clean (waiting tx clean)
+  queued-own c t = rw (getD-set-same (a .clean) q clean 0 c, getD-set-same (a .tx) q tx 0 t)
 
-  pub queued-other : ((other slot : ℕ) → (other ≡ q → ⊥) → slot < SLOTS → getD sent (sendPlace other slot) 0 ≡ getD (a .sent) (sendPlace other slot) 0)
-      → ((other : ℕ) → other < a .sends → getD (a .clean) other 0 < SLOTS)
-      → (h : ℕ) → (h ≡ HAND-FREE → ⊥) → (h ≡ HAND-SEND + q → ⊥)
-      → listOf (queued a free hands sent q clean tx) h ≡ listOf a h
-  queued-other same indices =
-      each-hand (λ h. (h ≡ HAND-FREE → ⊥) → (h ≡ HAND-SEND + q → ⊥) → listOf changed h ≡ listOf a h) (a .sends)
-      (λ nf ns. absurd (nf refl))
-      (λ nf ns. list-receive changed ∙ sym (list-receive a))
-      (λ nf ns. list-out changed ∙ sym (list-out a))
-      (λ other below nf ns. list-send changed other below ∙ unchanged other below (λ e. ns (ap (λ k. HAND-SEND + k) e)) ∙ sym (list-send a other below))
-      (λ h beyond nf ns. list-beyond changed h beyond ∙ sym (list-beyond a h beyond))
-    where
-      changed : Account
-      changed = queued a free hands sent q clean tx
+  module _ (same : (other slot : ℕ) → (other ≡ q → ⊥) → slot < SLOTS → getD sent (sendPlace other slot) 0 ≡ getD (a .sent) (sendPlace other slot) 0)
+      (indices : (other : ℕ) → other < a .sends → getD (a .clean) other 0 < SLOTS) where
+    pub queued-other : (other : ℕ) → other < a .sends → (other ≡ q → ⊥) → sendList (queued a free hands sent q clean tx) other ≡ sendList a other
+    queued-other other below ne =
+        rw (getD-set-other (a .clean) q other clean 0 ne, getD-set-other (a .tx) q other tx 0 ne)
+        (around-same sent (a .sent) other (λ slot l. same other slot ne l) (getD (a .clean) other 0) _ (indices other below))
 
-      unchanged : (other : ℕ) → other < a .sends → (other ≡ q → ⊥) → sendList changed other ≡ sendList a other
-      unchanged other below ne =
-          rw (getD-set-other (a .clean) q other clean 0 ne, getD-set-other (a .tx) q other tx 0 ne)
-          (around-same sent (a .sent) other (λ slot l. same other slot ne l) (getD (a .clean) other 0) _ (indices other below))
+    -- every list but the stack's and the queue's own
+    pub queued-list : (h : ℕ) → (h ≡ HAND-FREE → ⊥) → (h ≡ HAND-SEND + q → ⊥) → listOf (queued a free hands sent q clean tx) h ≡ listOf a h
+    queued-list =
+        each-hand (λ h. (h ≡ HAND-FREE → ⊥) → (h ≡ HAND-SEND + q → ⊥) → listOf changed h ≡ listOf a h) (a .sends)
+        (λ nf ns. absurd (nf refl))
+        (λ nf ns. list-receive changed ∙ sym (list-receive a))
+        (λ nf ns. list-out changed ∙ sym (list-out a))
+        (λ other below nf ns. list-send changed other below ∙ queued-other other below (λ e. ns (ap (λ k. HAND-SEND + k) e)) ∙ sym (list-send a other below))
+        (λ h beyond nf ns. list-beyond changed h beyond ∙ sym (list-beyond a h beyond))
+      where
+        changed : Account
+        changed = queued a free hands sent q clean tx
 
 pub length-around : (s : List ℕ) (q slot n : ℕ) → length (around s q slot n) ≡ n
 unfolding around

@@ -262,9 +262,8 @@ many-held a pool len n w x full s room =
         → takenHeld a x v ≡ takenHeld a x w
         → (Full (takingFrom a (oneMore pool len v)) × Sound (takingFrom a (oneMore pool len v))) × Ample m (oneMore pool len v)
         × (takenHeld a x (oneMore pool len v) ≡ takenHeld a x w)
-    turn m v some f t r e =
-        (
-          (one-full a pool len v f t, one-sound a pool len v f t some),
-          ample-turn pool len m v some r,
-          omega (arith, e, one-held a pool len v x f t some, occurs-stored x (v .lists .ids) (v .count) (top (v .free)) (omega (arith, r .ids))),
-        )
+    turn m v some f t r e = (
+      (one-full a pool len v f t, one-sound a pool len v f t some),
+      ample-turn pool len m v some r,
+      omega (arith, e, one-held a pool len v x f t some, occurs-stored x (v .lists .ids) (v .count) (top (v .free)) (omega (arith, r .ids))),
+    )

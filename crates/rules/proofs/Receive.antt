@@ -277,8 +277,11 @@ module _ (a : Account) (pool : ℕ) (addresses : List ℕ) (len : ℕ) (w : Rece
     pub received-held : (x : ℕ) → held x (receivingFrom a (received pool addresses len w)) + ind (eqb x (oldId w)) ≡ held x (receivingFrom a w)
     unfolding held received
     received-held x =
-        omega (arith, occurs-set x (w .slots) (w .rx) (top (w .free)) in-slots,
-        occurs-popped (w .free) x some (omega (arith, s .free-count, s .numbers .few-entries, full .stack)))
+        omega (
+          arith,
+          occurs-set x (w .slots) (w .rx) (top (w .free)) in-slots,
+          occurs-popped (w .free) x some (omega (arith, s .free-count, s .numbers .few-entries, full .stack)),
+        )
 
 -- ---- a whole receive
 
@@ -321,10 +324,13 @@ receive-held a pool size addresses n w x full s ready =
         → receivedHeld a x v ≡ receivedHeld a x w
         → (Full (receivingFrom a (received pool addresses len v)) × Sound (receivingFrom a (received pool addresses len v)))
         × Ready m (received pool addresses len v) × (receivedHeld a x (received pool addresses len v) ≡ receivedHeld a x w)
-    turn m len v e f t r h =
-        (
-          (received-full a pool addresses len v f, received-sound a pool addresses len v f t (frame-free size v len e)),
-          ready-turn pool size addresses r e,
-          omega (arith, h, received-held a pool addresses len v f t (frame-free size v len e) x,
-          given-more pool addresses len v x (omega (arith, room-here pool size addresses r e .ids))),
-        )
+    turn m len v e f t r h = (
+      (received-full a pool addresses len v f, received-sound a pool addresses len v f t (frame-free size v len e)),
+      ready-turn pool size addresses r e,
+      omega (
+        arith,
+        h,
+        received-held a pool addresses len v f t (frame-free size v len e) x,
+        given-more pool addresses len v x (omega (arith, room-here pool size addresses r e .ids)),
+      ),
+    )

@@ -98,9 +98,13 @@ sendRule q addresses lists (suc n) w = sendRule q addresses lists n (packetSent 
 abbrev pub sending : Account → ℕ → List ℕ → Cleaning → Sending
 sending a q ring c = record { hands = c .hands; sent = a .sent; tx = getD (a .tx) q 0; ring = ring; count = 0 }
 
+-- a ring with so many pending has room for as many more: never all of its slots are used
+abbrev pub roomFor : ℕ → ℕ
+roomFor many = SLOTS - 1 - many
+
 -- room is fixed once, after cleaning
 abbrev pub roomAfter : Account → ℕ → Cleaning → ℕ
-roomAfter a q c = SLOTS - 1 - waiting (getD (a .tx) q 0) (c .clean)
+roomAfter a q c = roomFor (waiting (getD (a .tx) q 0) (c .clean))
 
 -- as many as fit
 abbrev pub sentAfter : Account → ℕ → List ℕ → List ℕ → Handles → Cleaning → Sending
