@@ -32,7 +32,7 @@ both-right false b e = cc
 pub both-true : {a b : Bool} → a ≡ true → b ≡ true → both a b ≡ true
 both-true p q = rw (p, q)
 
-either-true : (b : Bool) → either b true ≡ true
+pub either-true : (b : Bool) → either b true ≡ true
 either-true true = refl
 either-true false = refl
 

@@ -17,7 +17,7 @@ use Rattle.rules.specs.declared.Found.the-variants.{Nothing, Frame}
 use Rattle.rules.specs.Numbers.{number}
 use Rattle.rules.specs.Handles.{Handles, hasRoom}
 use Rattle.rules.specs.Account.{nextSlot, waiting, around, listOf, opened}
-use Rattle.rules.specs.Sound.{isSize, inRange, indices, sound}
+use Rattle.rules.specs.Sound.{isSize, inRange, indices, ringPlaced, queuesPlaced, sound}
 use Rattle.rules.specs.Refusals.{takeVerdict, batchVerdict, startVerdict}
 use Rattle.rules.specs.Packets.{taken, takeCall, takeMany, batchRule, batchCall}
 use Rattle.rules.specs.Receive.{judged, Filling, filled, fillRule, filling, startCall}
@@ -102,5 +102,5 @@ examples =
     ∷ []
 
 pub examples-hold : map (λ e. e .rule) examples ≡ map (λ e. e .document) examples
-unfolding examples one freed allDone onlyDone onlyNotDone account started room upFrom every some leAt putLe offered cleanRule giveBack givenBack opened listOf around sound inRange isSize indices fillRule filled startVerdict startCall takeVerdict takeCall taken hasRoom batchVerdict batchRule takeMany batchCall
+unfolding examples one freed allDone onlyDone onlyNotDone account started room upFrom every some leAt putLe offered cleanRule giveBack givenBack opened listOf around sound inRange isSize indices ringPlaced queuesPlaced fillRule filled startVerdict startCall takeVerdict takeCall taken hasRoom batchVerdict batchRule takeMany batchCall
 examples-hold = refl

@@ -1,6 +1,7 @@
 pub mod Standing
 pub mod Lists
 pub mod Sound
+pub mod Facts
 pub mod Verdicts
 pub mod Packets
 pub mod Start

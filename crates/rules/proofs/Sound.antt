@@ -16,7 +16,7 @@ use Rattle.pool.specs.declared.Handle.{Handle}
 use Rattle.pool.specs.Hands.{HAND-FREE, HAND-OUT, HAND-SEND}
 use Rattle.rules.specs.declared.Account.{Account}
 use Rattle.rules.specs.Account.{handOf, listOf}
-use Rattle.rules.specs.Sound.{isSize, inRange, InRange, isGood, Good, Indices, indices, receiving, allBelow, hands, inPlace, sound, Sound, Full}
+use Rattle.rules.specs.Sound.{isSize, inRange, InRange, isGood, Good, Indices, indices, ringPlaced, queuesPlaced, allBelow, hands, inPlace, sound, Sound, Full}
 use Rattle.rules.proofs.Standing.{inHand, Placed, Standing}
 use Rattle.rules.proofs.Lists.{list-free, list-out, list-beyond}
 
@@ -84,6 +84,15 @@ module _ (clean tx : ℕ) where
   means-indices m =
       both-true (lt-ltb clean SLOTS (m .clean-below)) (both-true (lt-ltb tx SLOTS (m .tx-below)) (eq-eqb _ 0 (m .whole-batches)))
 
+module _ (n : ℕ) (clean tx : List ℕ) where
+  pub queues-mean : queuesPlaced n clean tx ≡ true → (q : ℕ) → q < n → Indices (getD clean q 0) (getD tx q 0)
+  unfolding queuesPlaced
+  queues-mean e q below = indices-mean _ _ (every-at (λ k. indices (getD clean k 0) (getD tx k 0)) n q below e)
+
+  means-queues : ((q : ℕ) → q < n → Indices (getD clean q 0) (getD tx q 0)) → queuesPlaced n clean tx ≡ true
+  unfolding queuesPlaced
+  means-queues m = every-all _ n (λ q l. means-indices _ _ (m q l))
+
 -- ---- lists that hold only ids
 
 below-means : (n : ℕ) (l : List ℕ) → allBelow n l ≡ true → (x : ℕ) → n ≤ x → occurs x l ≡ 0
@@ -100,22 +109,26 @@ means-below n (y ∷ l) h = both-true (first (decLt y n)) (means-below n l (λ x
     first (yes below) = lt-ltb y n below
     first (no out) = absurd (omega (arith, rw (eq-eqb y y refl) at (h y (omega arith))))
 
+-- ---- the receive ring
+
+module _ (started : Bool) (rx receives : ℕ) where
+  pub ring-means : ringPlaced started rx receives ≡ true → (rx < SLOTS) × (started ≡ true → 0 < receives) × (started ≡ false → rx ≡ 0)
+  unfolding ringPlaced
+  ring-means e =
+      let rest = both-right (ltb rx SLOTS) _ e in
+      (ltb-true rx SLOTS (both-left (ltb rx SLOTS) _ e), λ on. ltb-true 0 receives (rw on at rest), λ off. eqb-true rx 0 (rw off at rest))
+
+  pub means-ring : rx < SLOTS → (started ≡ true → 0 < receives) → (started ≡ false → rx ≡ 0) → ringPlaced started rx receives ≡ true
+  unfolding ringPlaced
+  means-ring below on off = both-true (lt-ltb rx SLOTS below) (by-case started refl)
+    where
+      by-case : (b : Bool) → started ≡ b → pick started (ltb 0 receives) (eqb rx 0) ≡ true
+      by-case true e = rw e (lt-ltb 0 receives (on e))
+      by-case false e = rw e (eq-eqb rx 0 (off e))
+
 -- ---- soundness
 
 module _ (a : Account) where
-  -- what the test says of the receive ring
-  receiving-means : receiving a ≡ true → (a .rx < SLOTS) × (a .started ≡ true → 0 < a .receives) × (a .started ≡ false → a .rx ≡ 0)
-  receiving-means e =
-      let rest = both-right (ltb (a .rx) SLOTS) _ e in
-      (ltb-true (a .rx) SLOTS (both-left (ltb (a .rx) SLOTS) _ e), λ on. ltb-true 0 (a .receives) (rw on at rest), λ off. eqb-true (a .rx) 0 (rw off at rest))
-
-  means-receiving : a .rx < SLOTS → (a .started ≡ true → 0 < a .receives) → (a .started ≡ false → a .rx ≡ 0) → receiving a ≡ true
-  means-receiving below on off = both-true (lt-ltb (a .rx) SLOTS below) (by-case (a .started) refl)
-    where
-      by-case : (b : Bool) → a .started ≡ b → pick (a .started) (ltb 0 (a .receives)) (eqb (a .rx) 0) ≡ true
-      by-case true e = rw e (lt-ltb 0 (a .receives) (on e))
-      by-case false e = rw e (eq-eqb (a .rx) 0 (off e))
-
   module _ (x : ℕ) where
     -- the test of one hand's list
     listed : ℕ → Bool
@@ -154,16 +167,16 @@ module _ (a : Account) where
       let e2 = both-right (leb (a .free .depth) (a .entries)) _ e1 in
       let below = both-left (every (hands a) (λ hand. allBelow (a .entries) (listOf a hand))) _ e2 in
       let e3 = both-right (every (hands a) (λ hand. allBelow (a .entries) (listOf a hand))) _ e2 in
-      let ring = receiving-means (both-left (receiving a) _ e3) in
-      let e4 = both-right (receiving a) _ e3 in
-      let queues = both-left (every (a .sends) (λ q. indices (getD (a .clean) q 0) (getD (a .tx) q 0))) _ e4 in
-      let all = both-right (every (a .sends) (λ q. indices (getD (a .clean) q 0) (getD (a .tx) q 0))) _ e4 in
+      let ring = ring-means (a .started) (a .rx) (a .receives) (both-left (ringPlaced (a .started) (a .rx) (a .receives)) _ e3) in
+      let e4 = both-right (ringPlaced (a .started) (a .rx) (a .receives)) _ e3 in
+      let queues = both-left (queuesPlaced (a .sends) (a .clean) (a .tx)) _ e4 in
+      let all = both-right (queuesPlaced (a .sends) (a .clean) (a .tx)) _ e4 in
       record {
         numbers = in-range-means (a .entries) (a .size) (a .receives) (a .sends) numbers;
         free-count = leb-true (a .free .depth) (a .entries) deep;
         ids-below = λ x h out. by-case below x h out (decLt h (hands a));
         rx-below = ring .0;
-        queues = λ q l. indices-mean _ _ (every-at (λ k. indices (getD (a .clean) k 0) (getD (a .tx) k 0)) (a .sends) q l queues);
+        queues = queues-mean (a .sends) (a .clean) (a .tx) queues;
         started-on = ring .1;
         not-started = ring .2;
         placed = λ x h l out. place-means x (every-at (inPlace a) (a .entries) x l all) h out;
@@ -181,8 +194,8 @@ module _ (a : Account) where
       both-true (means-in-range (a .entries) (a .size) (a .receives) (a .sends) (m .numbers))
       (both-true (le-leb (a .free .depth) (a .entries) (m .free-count))
       (both-true (every-all _ (hands a) (λ h l. means-below (a .entries) (listOf a h) (λ x out. m .ids-below x h out)))
-      (both-true (means-receiving (m .rx-below) (m .started-on) (m .not-started))
-      (both-true (every-all _ (a .sends) (λ q l. means-indices _ _ (m .queues q l)))
+      (both-true (means-ring (a .started) (a .rx) (a .receives) (m .rx-below) (m .started-on) (m .not-started))
+      (both-true (means-queues (a .sends) (a .clean) (a .tx) (m .queues))
       (every-all _ (a .entries) (λ x l. means-place x (λ h out. m .placed x h l out)))))))
 
   -- ---- where the ids of a sound account stand

@@ -62,8 +62,12 @@ unfoldable pub indices : ℕ → ℕ → Bool
 indices clean tx = both (ltb clean SLOTS) (both (ltb tx SLOTS) (eqb (clean % BATCH) 0))
 
 -- a receive ring that has started belongs to a receive queue; one that has not stands at index 0
-abbrev pub receiving : Account → Bool
-receiving a = both (ltb (a .rx) SLOTS) (pick (a .started) (ltb 0 (a .receives)) (eqb (a .rx) 0))
+unfoldable pub ringPlaced : Bool → ℕ → ℕ → Bool
+ringPlaced started rx receives = both (ltb rx SLOTS) (pick started (ltb 0 receives) (eqb rx 0))
+
+-- the indices of the first n queues
+unfoldable pub queuesPlaced : ℕ → List ℕ → List ℕ → Bool
+queuesPlaced n clean tx = every n (λ q. indices (getD clean q 0) (getD tx q 0))
 
 -- a list holds only ids below the entries
 abbrev pub allBelow : ℕ → List ℕ → Bool
@@ -85,8 +89,8 @@ sound a =
     both (inRange (a .entries) (a .size) (a .receives) (a .sends))
     (both (leb (a .free .depth) (a .entries))
     (both (every (hands a) (λ hand. allBelow (a .entries) (listOf a hand)))
-    (both (receiving a)
-    (both (every (a .sends) (λ q. indices (getD (a .clean) q 0) (getD (a .tx) q 0))) (every (a .entries) (inPlace a))))))
+    (both (ringPlaced (a .started) (a .rx) (a .receives))
+    (both (queuesPlaced (a .sends) (a .clean) (a .tx)) (every (a .entries) (inPlace a))))))
 
 -- an account is sound when
 pub record Sound (a : Account) : Type 0 where
