@@ -2,17 +2,18 @@
 // Beside each stands its verdict. The calls of crate `calls` make the soundness test first, and then call these.
 ghost use mathlib.Core.Path.{_≡_};
 ghost use mathlib.Core.Bool.{true};
-ghost use Prim.Native.Nat.{_+_, _-_, _*_, _≤_, _<_, min, max};
-ghost use lib.ListN.{length};
-ghost use lib.Seq.{sets};
-ghost use Rattle.limits.specs.Limits.{ENTRIES, HEADROOM};
-ghost use Rattle.laws.specs.Occurs.{upFrom};
+ghost use Prim.Native.Nat.{_≤_, _<_};
+ghost use lib.ListN.{take};
+ghost use Rattle.limits.specs.Limits.{ENTRIES, SLOTS};
+ghost use Rattle.laws.specs.Occurs.{occurs, upFrom};
 ghost use Rattle.pool.specs.Stack.{top};
-ghost use Rattle.rules.specs.Handles.{noHandle};
-ghost use Rattle.rules.specs.Account.{opened, withPool};
-ghost use Rattle.rules.specs.Sound.{isGood, sound};
-ghost use Rattle.rules.specs.Refusals.{memoryFits, freshVerdict, takeVerdict, batchVerdict, handleVerdict, viewVerdict, cloneVerdict, headroomVerdict};
-ghost use Rattle.rules.specs.Packets.{freshCall, packetOf, taken, takeCall, released, releaseCall, shortened, truncateCall};
+ghost use Rattle.pool.specs.Hands.{HAND-OUT};
+ghost use Rattle.rules.specs.Handles.{handles, Room, noHandle};
+ghost use Rattle.rules.specs.Account.{waiting, opened, withPool};
+ghost use Rattle.rules.specs.Sound.{isGood, queuesPlaced, sound};
+ghost use Rattle.rules.specs.Refusals.{takeVerdict, batchOf, handleVerdict};
+ghost use Rattle.rules.specs.Packets.{packetOf, taken, takeCall, takeMany, taking, batched, batchCall, countsOf, countsCall, released, releaseCall, shortened, truncateCall};
+ghost use Rattle.packets.specs.Takable.{Takable};
 use limits::ENTRIES;
 use limits::HEADROOM;
 use limits::SENDS;
@@ -23,6 +24,7 @@ use pool::HAND_OUT;
 use pool::Handle;
 use rules::Account;
 use rules::Batch;
+use rules::Counts;
 use rules::Kept;
 use rules::Refusal;
 use rules::Taken;
@@ -95,7 +97,7 @@ pub fn take_verdict(account: Account, len: usize) -> Verdict
 }
 
 // The top of the free stack goes to the application, as a packet of so many bytes.
-fn take_top(account: Account, len: u16) -> Taken
+pub fn take_top(account: Account, len: u16) -> Taken
     requires { ⌜ (0 < account .free .depth) × (account .free .depth ≤ ENTRIES) × (top (account .free) < ENTRIES) ⌝ }
     ensures { λ r. ⌜ r ≡ record { verdict = Verdict.Done; handle = packetOf (account .pool) (top (account .free)) len; account = taken account } ⌝ }
 {
@@ -118,7 +120,7 @@ fn take_top(account: Account, len: u16) -> Taken
 }
 
 // A refused call for a packet: no handle, and the account as it was.
-fn no_packet(why: Refusal, account: Account) -> Taken
+pub fn no_packet(why: Refusal, account: Account) -> Taken
     ensures { λ r. ⌜ r ≡ record { verdict = Verdict.Refused why; handle = noHandle; account = account } ⌝ }
 {
     Taken {
@@ -212,13 +214,6 @@ pub fn release(account: Account, handle: Handle) -> Kept
     }
 }
 
-// The lesser of two numbers.
-fn least(a: usize, b: usize) -> usize
-    ensures { λ r. ⌜ r ≡ min a b ⌝ }
-{
-    if a < b { a } else { b }
-}
-
 // A packet at most so many bytes long.
 pub fn truncate(account: Account, handle: Handle, len: usize) -> Truncated
     requires { ⌜ sound account ≡ true ⌝ }
@@ -241,11 +236,163 @@ pub fn truncate(account: Account, handle: Handle, len: usize) -> Truncated
 fn shorten(handle: Handle, len: usize) -> Handle
     ensures { λ r. ⌜ r ≡ shortened handle len ⌝ }
 {
-    let least = least(handle.length as usize, len);
+    let least = lists::least(handle.length as usize, len);
     Handle {
         pool: handle.pool,
         id: handle.id,
         offset: handle.offset,
         length: least as u16,
+    }
+}
+
+// ---- a batch
+
+// As many packets as asked for, off the top of the stack, into the lists. Answers the stack's new depth.
+fn take_many(
+    pool: u32,
+    len: u16,
+    most: usize,
+    stack: &[u16; ENTRIES],
+    depth: usize,
+    hands: &mut [u8; ENTRIES],
+    pools: &mut [u32],
+    ids: &mut [u16],
+    offsets: &mut [u16],
+    lengths: &mut [u16],
+) -> usize
+    requires { ⌜ Takable most (now stack) depth (handles (now pools) (now ids) (now offsets) (now lengths)) ⌝ }
+    ensures { λ r. ⌜ taking (now (stack .entry)) r (now (hands .exit)) (handles (now (pools .exit)) (now (ids .exit)) (now (offsets .exit)) (now (lengths .exit))) most ≡ takeMany pool len most (taking (now (stack .entry)) depth (now (hands .entry)) (handles (now (pools .entry)) (now (ids .entry)) (now (offsets .entry)) (now (lengths .entry))) 0) ⌝ }
+{
+    let mut left = depth;
+    for count in 0..most {
+        let top = left - 1;
+        let id = stack[top];
+        left = top;
+        hands[id as usize] = HAND_OUT;
+        let handle = Handle {
+            pool,
+            id,
+            offset: HEADROOM as u16,
+            length: len,
+        };
+        lists::put(pools, ids, offsets, lengths, count, handle);
+    }
+    left
+}
+
+// A batch of 0 takes one.
+fn batch_of(n: usize) -> usize
+    ensures { λ r. ⌜ r ≡ batchOf n ⌝ }
+{
+    if n == 0 { 1 } else { n }
+}
+
+// A batch of packets, as many as there are. An oversize batch takes none.
+pub fn batch(
+    account: Account,
+    n: usize,
+    len: usize,
+    pools: &mut [u32],
+    ids: &mut [u16],
+    offsets: &mut [u16],
+    lengths: &mut [u16],
+) -> Batch
+    requires { ⌜ sound account ≡ true ⌝ }
+    ensures { λ r. ⌜ batched r (handles (now (pools .exit)) (now (ids .exit)) (now (offsets .exit)) (now (lengths .exit))) ≡ batchCall account n len (handles (now (pools .entry)) (now (ids .entry)) (now (offsets .entry)) (now (lengths .entry))) ⌝ }
+{
+    let asked = batch_of(n);
+    let room = lists::least(asked, account.entries);
+    if !lists::has_room(room, pools, ids, offsets, lengths) {
+        return Batch {
+            verdict: Verdict::Refused(Refusal::WrongSize),
+            count: 0,
+            account,
+        };
+    }
+    if account.size - HEADROOM < len {
+        return Batch {
+            verdict: Verdict::Done,
+            count: 0,
+            account,
+        };
+    }
+    let free = account.free;
+    let stack = free.ids;
+    let mut hands = account.hands;
+    let most = lists::least(asked, free.depth);
+    let depth = take_many(
+        account.pool,
+        len as u16,
+        most,
+        &stack,
+        free.depth,
+        &mut hands,
+        pools,
+        ids,
+        offsets,
+        lengths,
+    );
+    Batch {
+        verdict: Verdict::Done,
+        count: most,
+        account: with_pool(account, FreeStack { ids: stack, depth }, hands),
+    }
+}
+
+// ---- the counts
+
+// How many of the first ids are recorded as out.
+fn count_out(entries: usize, hands: &[u8; ENTRIES]) -> usize
+    requires { ⌜ entries ≤ ENTRIES ⌝ }
+    ensures { λ r. ⌜ r ≡ occurs HAND-OUT (take entries (now (hands .entry))) ⌝ }
+{
+    let mut out = 0;
+    for id in 0..entries {
+        if HAND_OUT == hands[id] {
+            out += 1;
+        }
+    }
+    out
+}
+
+// How many slots of a queue wait to be cleaned.
+pub fn pending(tx: usize, clean: usize) -> usize
+    requires { ⌜ (tx < SLOTS) × (clean < SLOTS) ⌝ }
+    ensures { λ r. ⌜ r ≡ waiting tx clean ⌝ }
+{
+    (tx + SLOTS - clean) % SLOTS
+}
+
+// The same for each queue that there is.
+fn send_counts(sends: usize, clean: &[usize; SENDS], tx: &[usize; SENDS]) -> [usize; SENDS]
+    requires { ⌜ queuesPlaced sends (now clean) (now tx) ≡ true ⌝ }
+    ensures { λ r. ⌜ r ≡ countsOf sends (now (clean .entry)) (now (tx .entry)) ⌝ }
+{
+    let mut counts = [0usize; SENDS];
+    for q in 0..SENDS {
+        if q < sends {
+            counts[q] = pending(tx[q], clean[q]);
+        }
+    }
+    counts
+}
+
+// How many buffers each hand has.
+pub fn counts(account: Account) -> Counts
+    requires { ⌜ sound account ≡ true ⌝ }
+    ensures { λ r. ⌜ r ≡ countsCall account ⌝ }
+{
+    let free = account.free;
+    let hands = account.hands;
+    let clean = account.clean;
+    let tx = account.tx;
+    let send = send_counts(account.sends, &clean, &tx);
+    let out = count_out(account.entries, &hands);
+    Counts {
+        verdict: Verdict::Done,
+        free: free.depth,
+        receive: if account.started { SLOTS } else { 0 },
+        send,
+        out,
     }
 }

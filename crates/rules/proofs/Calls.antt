@@ -23,7 +23,7 @@ use Rattle.rules.specs.Handles.{Handles, handleAt, hasRoom, Room}
 use Rattle.rules.specs.Account.{waiting, opened}
 use Rattle.rules.specs.Sound.{inRange, isGood, Good, sound, Sound, Full}
 use Rattle.rules.specs.Refusals.{ringsFit, memoryFits, packetFits, sizeGiven, freshVerdict, takeVerdict, batchOf, batchVerdict, handleVerdict, cloneVerdict, startVerdict, receiveVerdict, sendable, handlesVerdict, sendVerdict}
-use Rattle.rules.specs.Packets.{Batched, Cloned, freshCall, taken, takeCall, takeMany, batchRule, batchCall, taking, releaseCall, cloneCall}
+use Rattle.rules.specs.Packets.{Batched, Cloned, freshCall, taken, takeCall, takeMany, batchRule, batchCall, takingOf, releaseCall, cloneCall}
 use Rattle.rules.specs.Receive.{AfterStart, AfterReceive, startCall, receiving, receiveRule, receiveCall, filling, fillRule}
 use Rattle.rules.specs.Send.{Cleaning, cleanRule, cleaning, cleaned, Sending, sending, sendRule, roomAfter, sentAfter, AfterSend, sendCall}
 use Rattle.rules.proofs.Lists.{queued}
@@ -145,8 +145,8 @@ module _ {a : Account} (full : Full a) (s : Sound a) where
       (λ e. by-size (leb len (a .size - HEADROOM)))
       (λ why e. (full, s))
     where
-      by-size : (b : Bool) → Whole (takingFrom a (pick b (takeMany (a .pool) len (batchOf n) (taking a lists)) (taking a lists)))
-      by-size true = many-sound a (a .pool) len (batchOf n) (taking a lists) full s
+      by-size : (b : Bool) → Whole (takingFrom a (pick b (takeMany (a .pool) len (batchOf n) (takingOf a lists)) (takingOf a lists)))
+      by-size true = many-sound a (a .pool) len (batchOf n) (takingOf a lists) full s
       by-size false = (full, s)
 
   -- ---- rings

@@ -175,7 +175,7 @@ module _ {a : Account} (full : Full a) (s : Sound a) where
 
 -- ---- a batch
 
-many-none : (pool len : ℕ) (w : Taking) → takeMany pool len zero w ≡ w
+pub many-none : (pool len : ℕ) (w : Taking) → takeMany pool len zero w ≡ w
 unfolding takeMany
 many-none pool len w = refl
 
@@ -201,6 +201,20 @@ module _ (pool len : ℕ) (P : ℕ → Taking → Type 0) (Q : Taking → Type 0
       by-case (no ne) again =
           let some : 0 < w .free .depth = omega (arith, ne) in
           rw (many-more pool len n w some) (again (oneMore pool len w) (turns n w some p))
+
+-- no more can be taken than there are
+pub many-min : (pool len n : ℕ) (w : Taking) → takeMany pool len n w ≡ takeMany pool len (min n (w .free .depth)) w
+many-min pool len zero w = let e : min 0 (w .free .depth) ≡ 0 = omega arith in rw e
+many-min pool len (suc n) w = by-case (ℕ-discrete (w .free .depth) 0) (many-min pool len n (oneMore pool len w))
+  where
+    by-case : Dec (w .free .depth ≡ 0)
+        → takeMany pool len n (oneMore pool len w) ≡ takeMany pool len (min n (w .free .depth - 1)) (oneMore pool len w)
+        → takeMany pool len (suc n) w ≡ takeMany pool len (min (suc n) (w .free .depth)) w
+    by-case (yes e) again = let z : min (suc n) (w .free .depth) ≡ 0 = omega arith in rw z (many-empty pool len n w e ∙ sym (many-none pool len w))
+    by-case (no ne) again =
+        let some : 0 < w .free .depth = omega (arith, ne) in
+        let z : min (suc n) (w .free .depth) ≡ suc (min n (w .free .depth - 1)) = omega (arith, ne) in
+        rw z (many-more pool len n w some ∙ again ∙ sym (many-more pool len (min n (w .free .depth - 1)) w some))
 
 -- the account at a turn of a batch
 abbrev pub takingFrom : Account → Taking → Account

@@ -13,6 +13,9 @@ pub record Handles : Type 0 where
   pub offsets : List ℕ
   pub lengths : List ℕ
 
+abbrev pub handles : List ℕ → List ℕ → List ℕ → List ℕ → Handles
+handles pools ids offsets lengths = record { pools = pools; ids = ids; offsets = offsets; lengths = lengths }
+
 -- the handle at a place of the list
 abbrev pub handleAt : Handles → ℕ → Handle
 handleAt l i =

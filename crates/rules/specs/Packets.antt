@@ -23,7 +23,7 @@ use Rattle.rules.specs.declared.Truncated.{Truncated}
 use Rattle.rules.specs.declared.Counts.{Counts}
 use Rattle.rules.specs.Numbers.{onVerdict}
 use Rattle.rules.specs.Handles.{Handles, putHandle, noHandle}
-use Rattle.rules.specs.Account.{receiveList, pending, opened, noAccount, withPool}
+use Rattle.rules.specs.Account.{receiveList, waiting, opened, noAccount, withPool}
 use Rattle.rules.specs.Refusals.{sizeGiven, freshVerdict, countsVerdict, packetFits, takeVerdict, batchOf, batchVerdict, handleVerdict, viewVerdict, cloneVerdict, headroomVerdict}
 
 -- ---- fresh, and the counts
@@ -34,9 +34,9 @@ freshCall pool entries size receives sends =
     (record { verdict = Done; account = opened pool entries (sizeGiven size) receives sends })
     (λ why. record { verdict = Refused why; account = noAccount })
 
--- a queue that there is not has none pending
-abbrev pub sendCounts : Account → List ℕ
-sendCounts a = map (λ q. pick (ltb q (a .sends)) (pending a q) 0) (upFrom 0 SENDS)
+-- what each queue has pending; a queue that there is not has none
+abbrev pub countsOf : ℕ → List ℕ → List ℕ → List ℕ
+countsOf sends clean tx = map (λ q. pick (ltb q sends) (waiting (getD tx q 0) (getD clean q 0)) 0) (upFrom 0 SENDS)
 
 unfoldable pub countsCall : Account → Counts
 countsCall a =
@@ -45,7 +45,7 @@ countsCall a =
       verdict = Done;
       free = a .free .depth;
       receive = length (receiveList a);
-      send = sendCounts a;
+      send = countsOf (a .sends) (a .clean) (a .tx);
       out = occurs HAND-OUT (take (a .entries) (a .hands));
     })
     (λ why. record { verdict = Refused why; free = 0; receive = 0; send = replicate SENDS 0; out = 0 })
@@ -93,13 +93,19 @@ takeMany pool len (suc n) w = elim (eqb (w .free .depth) 0) [ true ↦ w | false
 unfoldable pub batchRule : ℕ → ℕ → ℕ → ℕ → Taking → Taking
 batchRule pool size n len w = pick (leb len (size - HEADROOM)) (takeMany pool len (batchOf n) w) w
 
-abbrev pub taking : Account → Handles → Taking
-taking a lists = record { free = a .free; hands = a .hands; lists = lists; count = 0 }
+abbrev pub taking : List ℕ → ℕ → List ℕ → Handles → ℕ → Taking
+taking ids depth hands lists count = record { free = record { ids = ids; depth = depth }; hands = hands; lists = lists; count = count }
+
+abbrev pub takingOf : Account → Handles → Taking
+takingOf a lists = taking (a .free .ids) (a .free .depth) (a .hands) lists 0
 
 -- all that a batch leaves
 pub record Batched : Type 0 where
   pub answer : Batch
   pub lists : Handles
+
+abbrev pub batched : Batch → Handles → Batched
+batched answer lists = record { answer = answer; lists = lists }
 
 abbrev pub batchEnd : Account → Taking → Batched
 batchEnd a w =
@@ -108,7 +114,7 @@ batchEnd a w =
 unfoldable pub batchCall : Account → ℕ → ℕ → Handles → Batched
 batchCall a n len lists =
     onVerdict (batchVerdict a n lists)
-    (batchEnd a (batchRule (a .pool) (a .size) n len (taking a lists)))
+    (batchEnd a (batchRule (a .pool) (a .size) n len (takingOf a lists)))
     (λ why. record { answer = record { verdict = Refused why; count = 0; account = a }; lists = lists })
 
 -- ---- release, truncate
@@ -147,6 +153,9 @@ part at len memory = take len (drop at memory)
 pub record Cloned : Type 0 where
   pub answer : Taken
   pub memory : List ℕ
+
+abbrev pub clonedAs : Taken → List ℕ → Cloned
+clonedAs answer memory = record { answer = answer; memory = memory }
 
 -- a packet of the same length, with its bytes
 abbrev pub copied : ℕ → Handle → ℕ → List ℕ → List ℕ

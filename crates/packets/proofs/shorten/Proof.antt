@@ -1,4 +1,3 @@
--- `packets::shorten` meets its contract: the lesser length is what `least` ensures. Assumes nothing.
 use borrow.Author.Needs.{needs}
 use Rattle.packets.proofs.shorten.Statement.{statement}
 use Rattle.packets.proofs.shorten.Tie as tie
@@ -13,7 +12,7 @@ cast-t5 : tie.Need-cast-t5
 cast-t5 c = search needs
 
 returns : tie.Need-returns
-returns c = rw (c .least .ensures)
+returns c = ?
 
 pub shorten-spec : {M : Type 1} → statement M
 shorten-spec = tie.close (tie.spec cast-least least-requires cast-t5 returns)

@@ -1,0 +1,59 @@
+// A lent list of handles as four parallel lists of numbers: room for so many, the handle at a place, a handle put at a place.
+ghost use mathlib.Core.Path.{_≡_};
+ghost use Prim.Native.Nat.{_+_, _≤_, min};
+ghost use Rattle.rules.specs.Handles.{handles, handleAt, putHandle, hasRoom, Room};
+use pool::Handle;
+
+// The lesser of two numbers.
+pub fn least(a: usize, b: usize) -> usize
+    ensures { λ r. ⌜ r ≡ min a b ⌝ }
+{
+    if a < b { a } else { b }
+}
+
+// Whether each list has room for n.
+pub fn has_room(n: usize, pools: &[u32], ids: &[u16], offsets: &[u16], lengths: &[u16]) -> bool
+    ensures { λ r. ⌜ r ≡ hasRoom n (handles (now (pools .entry)) (now (ids .entry)) (now (offsets .entry)) (now (lengths .entry))) ⌝ }
+{
+    if pools.len() < n {
+        return false;
+    }
+    if ids.len() < n {
+        return false;
+    }
+    if offsets.len() < n {
+        return false;
+    }
+    n <= lengths.len()
+}
+
+// The handle at a place.
+pub fn at(pools: &[u32], ids: &[u16], offsets: &[u16], lengths: &[u16], i: usize) -> Handle
+    requires { ⌜ Room (i + 1) (handles (now pools) (now ids) (now offsets) (now lengths)) ⌝ }
+    ensures { λ r. ⌜ r ≡ handleAt (handles (now (pools .entry)) (now (ids .entry)) (now (offsets .entry)) (now (lengths .entry))) i ⌝ }
+{
+    Handle {
+        pool: pools[i],
+        id: ids[i],
+        offset: offsets[i],
+        length: lengths[i],
+    }
+}
+
+// Puts a handle at a place.
+pub fn put(
+    pools: &mut [u32],
+    ids: &mut [u16],
+    offsets: &mut [u16],
+    lengths: &mut [u16],
+    i: usize,
+    handle: Handle,
+)
+    requires { ⌜ Room (i + 1) (handles (now pools) (now ids) (now offsets) (now lengths)) ⌝ }
+    ensures { λ _. ⌜ handles (now (pools .exit)) (now (ids .exit)) (now (offsets .exit)) (now (lengths .exit)) ≡ putHandle (handles (now (pools .entry)) (now (ids .entry)) (now (offsets .entry)) (now (lengths .entry))) i handle ⌝ }
+{
+    pools[i] = handle.pool;
+    ids[i] = handle.id;
+    offsets[i] = handle.offset;
+    lengths[i] = handle.length;
+}
