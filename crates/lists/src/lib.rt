@@ -1,7 +1,11 @@
-// A lent list of handles as four parallel lists of numbers: room for so many, the handle at a place, a handle put at a place.
+// What a call is lent. A list of handles is four parallel lists of numbers: room for so many, the handle at a place, a handle put at a place.
+// A ring is whole, and has one address for each entry beside it.
 ghost use mathlib.Core.Path.{_≡_};
 ghost use Prim.Native.Nat.{_+_, _≤_, min};
 ghost use Rattle.rules.specs.Handles.{handles, handleAt, putHandle, hasRoom, Room};
+ghost use Rattle.rules.specs.Refusals.{ringsFit};
+use limits::SLOT_BYTES;
+use limits::SLOTS;
 use pool::Handle;
 
 // The lesser of two numbers.
@@ -56,4 +60,14 @@ pub fn put(
     ids[i] = handle.id;
     offsets[i] = handle.offset;
     lengths[i] = handle.length;
+}
+
+// Whether a ring is whole, and there is one address for each entry.
+pub fn rings_fit(entries: usize, ring: &[u8], addresses: &[u64]) -> bool
+    ensures { λ r. ⌜ r ≡ ringsFit entries (now (ring .entry)) (now (addresses .entry)) ⌝ }
+{
+    if ring.len() != SLOTS * SLOT_BYTES {
+        return false;
+    }
+    addresses.len() == entries
 }

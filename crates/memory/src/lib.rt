@@ -62,7 +62,8 @@ pub fn headroom_verdict(account: Account, handle: Handle, asked: usize, bytes: u
             if HEADROOM < asked {
                 return Verdict::Refused(Refusal::TooLarge);
             }
-            if (handle.offset as usize) < asked {
+            let offset = handle.offset as usize;
+            if offset < asked {
                 return Verdict::Refused(Refusal::NoHeadroom);
             }
             Verdict::Done

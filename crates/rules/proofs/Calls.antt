@@ -74,7 +74,7 @@ module _ (a : Account) where
 
   module _ (q : ℕ) (ring addresses : List ℕ) where
     pub start-done : startVerdict a q ring addresses ≡ Done
-        → (sound a ≡ true) × (ringsFit a ring addresses ≡ true) × (ltb q (a .receives) ≡ true) × (not (a .started) ≡ true) × (leb SLOTS (a .free .depth) ≡ true)
+        → (sound a ≡ true) × (ringsFit (a .entries) ring addresses ≡ true) × (ltb q (a .receives) ≡ true) × (not (a .started) ≡ true) × (leb SLOTS (a .free .depth) ≡ true)
     unfolding startVerdict
     start-done e =
         let p = unless-done _ _ _ e in
@@ -84,23 +84,23 @@ module _ (a : Account) where
         (p .0, p1 .0, p2 .0, p3 .0, unless-done _ _ _ (p3 .1) .0)
 
     pub receive-done : (n : ℕ) (lists : Handles) → receiveVerdict a q ring addresses n lists ≡ Done
-        → (sound a ≡ true) × (ringsFit a ring addresses ≡ true) × (hasRoom (min n SLOTS) lists ≡ true) × (ltb q (a .receives) ≡ true) × (a .started ≡ true)
+        → (sound a ≡ true) × (ringsFit (a .entries) ring addresses ≡ true) × (hasRoom (min n SLOTS) lists ≡ true) × (ltb q (a .receives) ≡ true) × (a .started ≡ true)
     unfolding receiveVerdict
     receive-done n lists e =
         let p = unless-done _ _ _ e in
         let p1 = unless-done _ _ _ (p .1) in
         let p2 = unless-done _ _ _ (p1 .1) in
-        (p .0, both-left (ringsFit a ring addresses) _ (p1 .0), both-right (ringsFit a ring addresses) _ (p1 .0), p2 .0, unless-done _ _ _ (p2 .1) .0)
+        (p .0, both-left (ringsFit (a .entries) ring addresses) _ (p1 .0), both-right (ringsFit (a .entries) ring addresses) _ (p1 .0), p2 .0, unless-done _ _ _ (p2 .1) .0)
 
     pub send-done : (lists : Handles) → sendVerdict a q ring addresses lists ≡ Done
-        → (sound a ≡ true) × (ringsFit a ring addresses ≡ true) × (hasRoom (length (lists .ids)) lists ≡ true) × (ltb q (a .sends) ≡ true)
+        → (sound a ≡ true) × (ringsFit (a .entries) ring addresses ≡ true) × (hasRoom (length (lists .ids)) lists ≡ true) × (ltb q (a .sends) ≡ true)
         × (handlesVerdict a lists 0 (length (lists .ids)) ≡ Done)
     unfolding sendVerdict
     send-done lists e =
         let p = unless-done _ _ _ e in
         let p1 = unless-done _ _ _ (p .1) in
         let p2 = unless-done _ _ _ (p1 .1) in
-        (p .0, both-left (ringsFit a ring addresses) _ (p1 .0), both-right (ringsFit a ring addresses) _ (p1 .0), p2 .0, p2 .1)
+        (p .0, both-left (ringsFit (a .entries) ring addresses) _ (p1 .0), both-right (ringsFit (a .entries) ring addresses) _ (p1 .0), p2 .0, p2 .1)
 
 -- ---- fresh
 
@@ -208,7 +208,7 @@ module _ {a : Account} (full : Full a) (s : Sound a) where
       w : Sending
       w = sentAfter a q ring addresses lists c
 
-      sent-whole : (sound a ≡ true) × (ringsFit a ring addresses ≡ true) × (hasRoom (length (lists .ids)) lists ≡ true) × (ltb q (a .sends) ≡ true)
+      sent-whole : (sound a ≡ true) × (ringsFit (a .entries) ring addresses ≡ true) × (hasRoom (length (lists .ids)) lists ≡ true) × (ltb q (a .sends) ≡ true)
           × (handlesVerdict a lists 0 (length (lists .ids)) ≡ Done)
           → Whole (queued a (c .free) (w .hands) (w .sent) q (c .clean) (w .tx))
       sent-whole d =

@@ -143,6 +143,15 @@ module _ (a : Account) (free : FreeStack) (hands sent : List ℕ) (q clean tx : 
         changed : Account
         changed = queued a free hands sent q clean tx
 
+-- the id at a place of a queue's list
+pub around-at : (s : List ℕ) (q slot n i : ℕ) → slot < SLOTS → i < n → getD (around s q slot n) i 0 ≡ getD s (sendPlace q ((slot + i) % SLOTS)) 0
+unfolding around
+around-at s q slot zero i h l = absurd (omega arith)
+around-at s q slot (suc n) zero h l = let e : (slot + 0) % SLOTS ≡ slot = omega arith in rw e
+around-at s q slot (suc n) (suc i) h l =
+    let e : (nextSlot slot + i) % SLOTS ≡ (slot + suc i) % SLOTS = omega arith in
+    rw e at (around-at s q (nextSlot slot) n i (omega arith) (omega arith))
+
 pub length-around : (s : List ℕ) (q slot n : ℕ) → length (around s q slot n) ≡ n
 unfolding around
 length-around s q slot zero = refl

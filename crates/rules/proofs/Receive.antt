@@ -190,6 +190,15 @@ module _ (pool size : ℕ) (addresses : List ℕ) (P : ℕ → Receiving → Typ
       by-case again (Nothing reason) e = rw (rule-stopped pool size addresses n w reason e) (stops (suc n) w reason p)
       by-case again (Frame len) e = rw (rule-frame pool size addresses n w len e) (again (received pool addresses len w) (turns n len w e p))
 
+next-place : (pool : ℕ) (addresses : List ℕ) (len : ℕ) (w : Receiving) → received pool addresses len w .rx < SLOTS
+unfolding received
+next-place pool addresses len w = omega arith
+
+-- a receive's index stays in the ring
+pub receive-place : (pool size : ℕ) (addresses : List ℕ) (n : ℕ) (w : Receiving) → w .rx < SLOTS → receiveRule pool size addresses n w .work .rx < SLOTS
+receive-place pool size addresses n w =
+    receive-holds pool size addresses (λ m v. v .rx < SLOTS) (λ o. o .work .rx < SLOTS) (λ m v reason p. p) (λ m len v e p. next-place pool addresses len v) n w
+
 -- ---- where the ids stand
 
 -- the account at a turn of a receive

@@ -59,6 +59,9 @@ pub record AfterStart : Type 0 where
   pub answer : Started
   pub ring : List ℕ
 
+abbrev pub startedAs : Started → List ℕ → AfterStart
+startedAs answer ring = record { answer = answer; ring = ring }
+
 -- the tail of a full ring is its last slot
 abbrev pub startEnd : Account → Filling → AfterStart
 startEnd a w =
@@ -156,6 +159,9 @@ pub record AfterReceive : Type 0 where
   pub answer : Received
   pub ring : List ℕ
   pub lists : Handles
+
+abbrev pub receivedAs : Received → List ℕ → Handles → AfterReceive
+receivedAs answer ring lists = record { answer = answer; ring = ring; lists = lists }
 
 abbrev pub receiveEnd : Account → Stopping → AfterReceive
 receiveEnd a s =

@@ -19,8 +19,8 @@ use Rattle.rules.specs.Sound.{inRange, isGood, sound}
 -- ---- lengths of what is lent
 
 -- a ring is 8,192 bytes, and there is one address per entry
-abbrev pub ringsFit : Account → List ℕ → List ℕ → Bool
-ringsFit a ring addresses = both (eqb (length ring) RING-BYTES) (eqb (length addresses) (a .entries))
+abbrev pub ringsFit : ℕ → List ℕ → List ℕ → Bool
+ringsFit entries ring addresses = both (eqb (length ring) RING-BYTES) (eqb (length addresses) entries)
 
 -- packet memory is entries × entry size
 abbrev pub memoryFits : Account → ℕ → Bool
@@ -91,7 +91,7 @@ headroomVerdict a h asked bytes =
 unfoldable pub startVerdict : Account → ℕ → List ℕ → List ℕ → Verdict
 startVerdict a q ring addresses =
     unless (sound a) Unsound
-    (unless (ringsFit a ring addresses) WrongSize
+    (unless (ringsFit (a .entries) ring addresses) WrongSize
     (unless (ltb q (a .receives)) NoQueue
     (unless (not (a .started)) NotNow
     (unless (leb SLOTS (a .free .depth)) NoneFree Done))))
@@ -100,7 +100,7 @@ startVerdict a q ring addresses =
 unfoldable pub receiveVerdict : Account → ℕ → List ℕ → List ℕ → ℕ → Handles → Verdict
 receiveVerdict a q ring addresses n lists =
     unless (sound a) Unsound
-    (unless (both (ringsFit a ring addresses) (hasRoom (min n SLOTS) lists)) WrongSize
+    (unless (both (ringsFit (a .entries) ring addresses) (hasRoom (min n SLOTS) lists)) WrongSize
     (unless (ltb q (a .receives)) NoQueue
     (unless (a .started) NotNow Done)))
 
@@ -118,6 +118,6 @@ handlesVerdict a lists i (suc n) =
 unfoldable pub sendVerdict : Account → ℕ → List ℕ → List ℕ → Handles → Verdict
 sendVerdict a q ring addresses lists =
     unless (sound a) Unsound
-    (unless (both (ringsFit a ring addresses) (hasRoom (length (lists .ids)) lists)) WrongSize
+    (unless (both (ringsFit (a .entries) ring addresses) (hasRoom (length (lists .ids)) lists)) WrongSize
     (unless (ltb q (a .sends)) NoQueue
     (handlesVerdict a lists 0 (length (lists .ids)))))

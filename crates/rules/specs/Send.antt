@@ -116,6 +116,9 @@ pub record AfterSend : Type 0 where
   pub answer : Sent
   pub ring : List ℕ
 
+abbrev pub sentAs : Sent → List ℕ → AfterSend
+sentAs answer ring = record { answer = answer; ring = ring }
+
 -- the tail is written always
 abbrev pub sendEnd : Account → ℕ → Cleaning → Sending → AfterSend
 sendEnd a q c w =

@@ -1,11 +1,13 @@
+-- `packets::batch_of` meets its contract: each answer by the test that led there. Assumes nothing.
+use borrow.Author.Tests.{eq-eqb, ne-eqb}
 use Rattle.packets.proofs.batch_of.Statement.{statement}
 use Rattle.packets.proofs.batch_of.Tie as tie
 
 returns : tie.Need-returns
-returns c = ?
+returns c = rw (eq-eqb _ 0 (c .if1 .taken))
 
 returns-2 : tie.Need-returns-2
-returns-2 c = ?
+returns-2 c = rw (ne-eqb _ 0 (c .if1 .left))
 
 pub batch-of-spec : {M : Type 1} → statement M
 batch-of-spec = tie.close (tie.spec returns returns-2)

@@ -1,5 +1,4 @@
 -- `packets::take_top` meets its contract: what the pop gave goes into the handle, the stack and the record of hands. Assumes nothing.
-use native.Mathlib.Omega.{arith}
 use Rattle.rules.specs.Packets.{taken}
 use borrow.Author.Needs.{needs}
 use Rattle.packets.proofs.take_top.Statement.{statement}

@@ -1,0 +1,2 @@
+-- What callers cite: the laws of packet memory.
+pub mod Laws
