@@ -1,0 +1,50 @@
+-- `calls::receive` meets its contract: an account that is not sound is refused, and else the call on a sound one answers. Assumes nothing.
+use mathlib.Core.Path.{sym, _∙_}
+use borrow.Author.Tests.{not-true, not-false}
+use Rattle.rules.specs.Refusals.{receiveVerdict}
+use Rattle.rules.specs.Receive.{receiveCall}
+use borrow.Author.Needs.{needs}
+use Rattle.calls.proofs.receive.Statement.{statement}
+use Rattle.calls.proofs.receive.Tie as tie
+
+is-sound-requires : tie.Need-is-sound-requires
+is-sound-requires c κs = search needs
+
+returns : tie.Need-returns
+unfolding receiveVerdict receiveCall
+returns c = rw (sym (c .before .is-sound .ensures) ∙ not-true _ (c .if1 .taken))
+
+receive-requires : tie.Need-receive-requires
+receive-requires c κs = sym (c .before .before .before .before .before .before .is-sound .ensures) ∙ not-false _ (c .before .before .before .before .before .if1 .left)
+
+same-length : tie.Need-same-length
+same-length c = search needs
+
+same-length-2 : tie.Need-same-length-2
+same-length-2 c = search needs
+
+same-length-3 : tie.Need-same-length-3
+same-length-3 c = search needs
+
+same-length-4 : tie.Need-same-length-4
+same-length-4 c = search needs
+
+same-length-5 : tie.Need-same-length-5
+same-length-5 c = search needs
+
+returns-2 : tie.Need-returns-2
+returns-2 c = search needs
+
+pub receive-spec : {M : Type 1} → statement M
+receive-spec =
+    tie.close
+    (tie.spec
+    is-sound-requires
+    returns
+    receive-requires
+    same-length
+    same-length-2
+    same-length-3
+    same-length-4
+    same-length-5
+    returns-2)
