@@ -9,6 +9,7 @@ use Rattle.rules.specs.declared.Batch.{Batch}
 use Rattle.rules.specs.declared.Counts.{Counts}
 use Rattle.rules.specs.declared.Kept.{Kept}
 use Rattle.rules.specs.declared.Received.{Received}
+use Rattle.rules.specs.declared.Sent.{Sent}
 use Rattle.rules.specs.declared.Started.{Started}
 use Rattle.rules.specs.declared.Taken.{Taken}
 use Rattle.rules.specs.declared.Truncated.{Truncated}
@@ -17,6 +18,7 @@ use Rattle.rules.specs.Handles.{Handles}
 use Rattle.rules.specs.Refusals.{viewVerdict, headroomVerdict}
 use Rattle.rules.specs.Packets.{freshCall, countsCall, takeCall, batched, Batched, batchCall, releaseCall, truncateCall, clonedAs, Cloned, cloneCall, viewCall, headroomCall}
 use Rattle.rules.specs.Receive.{startedAs, AfterStart, startCall, receivedAs, AfterReceive, receiveCall}
+use Rattle.rules.specs.Send.{sentAs, AfterSend, sendCall}
 
 -- two things that equal one rule
 pub same : {A : Type 0} {x y rule : A} → x ≡ rule → y ≡ rule → x ≡ y
@@ -65,3 +67,6 @@ module _ (a : Account) where
         → receivedAs r l k ≡ receiveCall a q ring addresses n lists → receivedAs s m j ≡ receiveCall a q ring addresses n lists → (r ≡ s) × (l ≡ m) × (k ≡ j)
     receive-unique n lists r s l m k j p o =
         (ap (λ (x : AfterReceive). x .answer) (same p o), ap (λ (x : AfterReceive). x .ring) (same p o), ap (λ (x : AfterReceive). x .lists) (same p o))
+
+    pub send-unique : (lists : Handles) (r s : Sent) (l m : List ℕ) → sentAs r l ≡ sendCall a q ring addresses lists → sentAs s m ≡ sendCall a q ring addresses lists → (r ≡ s) × (l ≡ m)
+    send-unique lists r s l m p o = (ap (λ (x : AfterSend). x .answer) (same p o), ap (λ (x : AfterSend). x .ring) (same p o))

@@ -1,10 +1,12 @@
 // The public calls of the account. None asks anything of its caller: each tests the account first, refuses by document 01's table, and
 // leaves everything as it was where it refuses.
 ghost use mathlib.Core.Path.{_≡_};
+ghost use Rattle.rules.specs.Numbers.{refusalNumber, number as numberOf};
 ghost use Rattle.rules.specs.Handles.{handles};
 ghost use Rattle.rules.specs.Refusals.{sizeGiven, viewVerdict, headroomVerdict};
 ghost use Rattle.rules.specs.Packets.{freshCall, countsCall, takeCall, batched, batchCall, releaseCall, truncateCall, clonedAs, cloneCall, viewCall, headroomCall};
 ghost use Rattle.rules.specs.Receive.{startedAs, startCall, receivedAs, receiveCall};
+ghost use Rattle.rules.specs.Send.{sentAs, sendCall};
 use limits::SENDS;
 use limits::USUAL_SIZE;
 use pool::Handle;
@@ -15,11 +17,39 @@ use rules::Ended;
 use rules::Kept;
 use rules::Received;
 use rules::Refusal;
+use rules::Sent;
 use rules::Started;
 use rules::Tail;
 use rules::Taken;
 use rules::Truncated;
 use rules::Verdict;
+
+// Document 01's number of a refusal.
+pub fn refusal_number(why: Refusal) -> u64
+    ensures { λ r. ⌜ r ≡ refusalNumber why ⌝ }
+{
+    match why {
+        Refusal::Unsound => 1,
+        Refusal::WrongSize => 2,
+        Refusal::NoQueue => 3,
+        Refusal::BadHandle(_) => 4,
+        Refusal::TooLarge => 5,
+        Refusal::NoneFree => 6,
+        Refusal::NoHeadroom => 7,
+        Refusal::NotNow => 8,
+        Refusal::OutOfRange => 9,
+    }
+}
+
+// Document 01's number of a verdict: 0 is done.
+pub fn number(verdict: Verdict) -> u64
+    ensures { λ r. ⌜ r ≡ numberOf verdict ⌝ }
+{
+    match verdict {
+        Verdict::Done => 0,
+        Verdict::Refused(why) => refusal_number(why),
+    }
+}
 
 // The entry size that is meant: a given 0 means the usual one.
 fn size_given(size: usize) -> usize
@@ -211,4 +241,28 @@ pub fn receive(
         };
     }
     receiving::receive(account, q, ring, addresses, n, pools, ids, offsets, lengths)
+}
+
+// Sends the packets of a list that fit, after cleaning.
+pub fn send(
+    account: Account,
+    q: usize,
+    ring: &mut [u8],
+    addresses: &[u64],
+    pools: &[u32],
+    ids: &[u16],
+    offsets: &[u16],
+    lengths: &[u16],
+) -> Sent
+    ensures { λ r. ⌜ sentAs r (now (ring .exit)) ≡ sendCall account q (now (ring .entry)) (now (addresses .entry)) (handles (now (pools .entry)) (now (ids .entry)) (now (offsets .entry)) (now (lengths .entry))) ⌝ }
+{
+    if !sound::is_sound(account) {
+        return Sent {
+            verdict: Verdict::Refused(Refusal::Unsound),
+            count: 0,
+            tail: Tail::Unwritten,
+            account,
+        };
+    }
+    sending::send(account, q, ring, addresses, pools, ids, offsets, lengths)
 }

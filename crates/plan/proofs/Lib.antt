@@ -1,0 +1,4 @@
+pub mod Lists
+pub mod Rows
+pub mod Laws
+pub mod Highest

@@ -1,0 +1,5 @@
+pub mod Map
+pub mod Copied
+pub mod Ways
+pub mod Sound
+pub mod Begins

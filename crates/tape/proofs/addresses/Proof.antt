@@ -1,0 +1,62 @@
+-- `tape::addresses` meets its contract: the addresses so far are stored, and the rest is zeros. Assumes nothing.
+use borrow.Author.Needs.{needs}
+use Prim.Native.Nat.{_-_, _≤_}
+use mathlib.Core.Path.{_≡_, refl}
+use native.Mathlib.Omega.{arith}
+use Rattle.tape.specs.Tape.{addressesIn}
+use Rattle.tape.proofs.Lists.{one-more}
+use Rattle.tape.proofs.addresses.Statement.{statement}
+use Rattle.tape.proofs.addresses.Tie as tie
+
+abbrev Inv-loop : tie.InvT-loop
+Inv-loop body count rings₀ i₀ rings i = (rings ≡ addressesIn body i) × (i ≤ count)
+
+abbrev μ-loop : tie.MeasureT-loop
+μ-loop body count rings₀ i₀ rings i = count - i
+
+loop-holds : tie.Need-loop-holds Inv-loop μ-loop
+loop-holds c = (refl, omega arith)
+
+mul-double-at : tie.Need-mul-double-at Inv-loop μ-loop
+mul-double-at c = search needs
+
+add-double-at : tie.Need-add-double-at Inv-loop μ-loop
+add-double-at c = search needs
+
+double-at-requires : tie.Need-double-at-requires Inv-loop μ-loop
+double-at-requires c κs = omega arith
+
+mul-rings : tie.Need-mul-rings Inv-loop μ-loop
+mul-rings c = search needs
+
+array-write-rings : tie.Need-array-write-rings Inv-loop μ-loop
+array-write-rings c = search needs
+
+add-i : tie.Need-add-i Inv-loop μ-loop
+add-i c = omega arith
+
+loop-less : tie.Need-loop-less Inv-loop μ-loop
+loop-less c = omega arith
+
+loop-again : tie.Need-loop-again Inv-loop μ-loop
+loop-again c = (rw (c .before .before .loop .inv .0, c .double-at .ensures) (one-more (c .before .before .before .before .args .body .now) (c .before .before .loop .i) (omega arith)), omega arith)
+
+returns : tie.Need-returns Inv-loop μ-loop
+returns c = let e : c .before .loop .i ≡ c .before .before .before .args .count = omega arith in rw (← e) (c .before .loop .inv .0)
+
+pub addresses-spec : {M : Type 1} → statement M
+addresses-spec =
+    tie.close
+    (tie.spec
+    Inv-loop
+    μ-loop
+    loop-holds
+    mul-double-at
+    add-double-at
+    double-at-requires
+    mul-rings
+    array-write-rings
+    add-i
+    loop-less
+    loop-again
+    returns)
