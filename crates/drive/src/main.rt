@@ -345,10 +345,10 @@ fn receive_once(n: usize, status: u8, len: u8, slots: usize)
 {
     let mut ring = written(status, len, slots);
     let addresses = [0u64; 520];
-    let mut pools = [0u32; 512];
-    let mut ids = [0u16; 512];
-    let mut offsets = [0u16; 512];
-    let mut lengths = [0u16; 512];
+    let mut pools = [0u32; SLOTS];
+    let mut ids = [0u16; SLOTS];
+    let mut offsets = [0u16; SLOTS];
+    let mut lengths = [0u16; SLOTS];
     received_answer(calls::receive(
         ringed(),
         0,
@@ -370,7 +370,7 @@ fn receive() {
     receive_once(4, 1, 60, 3);
     receive_once(4, 3, 65, 3);
     receive_once(4, 3, 64, 3);
-    receive_once(600, 3, 60, 512);
+    receive_once(600, 3, 60, SLOTS);
     receive_round();
     receive_refused();
     say(b"\n");
@@ -381,10 +381,10 @@ fn receive_round() {
     let mut ring = written(3, 60, SLOTS);
     let addresses = [0u64; 1100];
     let started = calls::start(account(1100), 0, &mut [0u8; SLOTS * SLOT_BYTES], &addresses);
-    let mut pools = [0u32; 512];
-    let mut ids = [0u16; 512];
-    let mut offsets = [0u16; 512];
-    let mut lengths = [0u16; 512];
+    let mut pools = [0u32; SLOTS];
+    let mut ids = [0u16; SLOTS];
+    let mut offsets = [0u16; SLOTS];
+    let mut lengths = [0u16; SLOTS];
     let account = started.account;
     received_answer(calls::receive(
         account,
