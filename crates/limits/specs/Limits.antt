@@ -1,5 +1,5 @@
 -- Document 01, "Numbers", each named once. src/lib.rt has the constant of the same name, with `_` for `-`.
-use Prim.Native.Nat.{ℕ, _*_, _^_}
+use Prim.Native.Nat.{ℕ, _*_}
 use mathlib.Core.List.{List, [], _∷_}
 
 -- the most buffers that an account has

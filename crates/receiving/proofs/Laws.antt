@@ -1,5 +1,5 @@
 -- What the tests of a start and of a receive give the loops: in a sound account every id on the stack and in the ring has an address.
-use Prim.Native.Nat.{ℕ, _≤_, _<_, min}
+use Prim.Native.Nat.{ℕ, min}
 use mathlib.Core.Path.{_≡_}
 use mathlib.Core.Bool.{true}
 use mathlib.Core.List.{List}

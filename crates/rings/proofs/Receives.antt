@@ -1,6 +1,6 @@
 -- The loops of the start and of a receive. The receive's invariant, `Along`: what is left to do at the loop's head is what was to do at the start, and every id that is met
 -- has an address. Each way out of a turn is one law.
-use Prim.Native.Nat.{ℕ, zero, suc, _+_, _-_, _≤_, _<_, min}
+use Prim.Native.Nat.{ℕ, zero, suc, _+_, _-_, _≤_, _<_}
 use mathlib.Core.Path.{_≡_, refl, sym, _∙_}
 use mathlib.Core.List.{List, [], _∷_}
 use lib.ListN.{length, getD, set, length-set}
@@ -13,7 +13,7 @@ use Rattle.rules.specs.declared.Stop.{Stop}
 use Rattle.rules.specs.declared.Stop.the-variants.{Asked}
 use Rattle.rules.specs.declared.Found.the-variants.{Nothing, Frame}
 use Rattle.rules.specs.Handles.{Handles, Room}
-use Rattle.rules.specs.Receive.{Filling, filled, fillRule, Receiving, received, next, Stopping, receiveRule}
+use Rattle.rules.specs.Receive.{Filling, filled, fillRule, Receiving, received, next, receiveRule}
 use Rattle.rules.proofs.Receive.{Ready, ready-turn, room-here, frame-free, rule-asked, rule-stopped, rule-frame}
 use Rattle.rings.specs.Lent.{Known, Stacked, Receivable}
 

@@ -1,19 +1,11 @@
 -- What the loops ask of what they are lent, and their answers as the rules' works.
-use Prim.Native.Nat.{ℕ, zero, suc, _+_, _*_, _%_, _≤_, _<_, min}
+use Prim.Native.Nat.{ℕ, _≤_, _<_, min}
 use mathlib.Core.Path.{_≡_}
-use mathlib.Core.Bool.{Bool}
 use mathlib.Core.List.{List}
-use lib.ListN.{length, getD, set}
-use lib.Dec.{eqb, ltb, leb}
-use Rattle.limits.specs.Limits.{ENTRIES, SENDS, SLOTS, RING-BYTES, HEADROOM, SMALLEST-SIZE, SIZE-DOUBLINGS}
-use Rattle.laws.specs.Test.{both, either}
-use Rattle.pool.specs.declared.Handle.{Handle}
-use Rattle.pool.specs.Hands.{HAND-OUT}
-use Rattle.rules.specs.declared.Stop.{Stop}
-use Rattle.rules.specs.Handles.{Handles, handleAt, Room}
-use Rattle.rules.specs.Account.{waiting, sendPlace}
+use lib.ListN.{length, getD}
+use Rattle.limits.specs.Limits.{ENTRIES, SLOTS, RING-BYTES}
+use Rattle.rules.specs.Handles.{Handles, Room}
 use Rattle.rules.specs.Receive.{Filling, Receiving, Stopping}
-use Rattle.rules.specs.Send.{Cleaning, Sending}
 use Rattle.rings.specs.declared.Run.{Run}
 
 -- ---- ids that index the addresses

@@ -1,38 +1,36 @@
 -- Each call of the account keeps a sound account sound: a refusal leaves it as it was, and a call that is done has passed the tests that
 -- its rule's laws ask for.
-use Prim.Native.Nat.{ℕ, _+_, _-_, _*_, _%_, _≤_, _<_, min}
-use mathlib.Core.Path.{_≡_, refl, sym, ap, _∙_}
+use Prim.Native.Nat.{ℕ, _-_, _≤_, _<_, min}
+use mathlib.Core.Path.{_≡_}
 use mathlib.Core.Bool.{Bool, true, false, not}
 use mathlib.Core.List.{List}
 use lib.ListN.{length, getD}
-use lib.Dec.{eqb, ltb, leb}
+use lib.Dec.{ltb, leb}
 use native.Mathlib.Omega.{arith}
-use borrow.Author.Tests.{eqb-true, ltb-true, leb-true, not-true}
-use Rattle.limits.specs.Limits.{SLOTS, RING-BYTES, HEADROOM, BATCH}
-use Rattle.laws.specs.Test.{both, pick}
+use borrow.Author.Tests.{ltb-true, leb-true, not-true}
+use Rattle.limits.specs.Limits.{SLOTS, HEADROOM}
+use Rattle.laws.specs.Test.{pick}
 use Rattle.laws.proofs.Test.{both-left, both-right}
 use Rattle.pool.specs.declared.Handle.{Handle}
-use Rattle.pool.specs.Hands.{HAND-FREE, HAND-OUT, HAND-SEND}
+use Rattle.pool.specs.Hands.{HAND-OUT}
 use Rattle.rules.specs.declared.Account.{Account}
-use Rattle.rules.specs.declared.Refusal.{Refusal}
-use Rattle.rules.specs.declared.Verdict.{Verdict}
-use Rattle.rules.specs.declared.Verdict.the-variants.{Done, Refused}
+use Rattle.rules.specs.declared.Verdict.the-variants.{Done}
 use Rattle.rules.specs.declared.Kept.{Kept}
 use Rattle.rules.specs.declared.Taken.{Taken}
-use Rattle.rules.specs.Handles.{Handles, handleAt, hasRoom, Room}
-use Rattle.rules.specs.Account.{waiting, opened}
+use Rattle.rules.specs.Handles.{Handles, handleAt, hasRoom}
+use Rattle.rules.specs.Account.{waiting}
 use Rattle.rules.specs.Sound.{inRange, isGood, Good, sound, Sound, Full}
 use Rattle.rules.specs.Refusals.{ringsFit, memoryFits, packetFits, sizeGiven, freshVerdict, takeVerdict, batchOf, batchVerdict, handleVerdict, cloneVerdict, startVerdict, receiveVerdict, sendable, handlesVerdict, sendVerdict}
-use Rattle.rules.specs.Packets.{Batched, Cloned, freshCall, taken, takeCall, takeMany, batchRule, batchCall, takingOf, releaseCall, cloneCall}
-use Rattle.rules.specs.Receive.{AfterStart, AfterReceive, startCall, receiving, receiveRule, receiveCall, filling, fillRule}
-use Rattle.rules.specs.Send.{Cleaning, cleanRule, cleaning, cleaned, Sending, sending, sendRule, roomAfter, sentAfter, AfterSend, sendCall}
+use Rattle.rules.specs.Packets.{Batched, Cloned, freshCall, takeCall, takeMany, batchRule, batchCall, takingOf, releaseCall, cloneCall}
+use Rattle.rules.specs.Receive.{AfterStart, AfterReceive, startCall, receiving, receiveCall}
+use Rattle.rules.specs.Send.{Cleaning, cleaning, cleaned, Sending, sending, roomAfter, sentAfter, AfterSend, sendCall}
 use Rattle.rules.proofs.Lists.{queued}
-use Rattle.rules.proofs.Sound.{in-range-means, sound-means, means-sound, good-means}
-use Rattle.rules.proofs.Verdicts.{unless-done, verdict-holds, room-means, handles-done, sendable-good, sendable-new}
+use Rattle.rules.proofs.Sound.{in-range-means, good-means}
+use Rattle.rules.proofs.Verdicts.{unless-done, verdict-holds, handles-done, sendable-good, sendable-new}
 use Rattle.rules.proofs.Packets.{opened-full, opened-sound, taken-full, taken-sound, released-full, released-sound, takingFrom, many-sound}
 use Rattle.rules.proofs.Start.{started-full, started-sound}
 use Rattle.rules.proofs.Receive.{receivingFrom, receive-sound}
-use Rattle.rules.proofs.Queue.{Steady, steady-start, queued-full, queued-sound}
+use Rattle.rules.proofs.Queue.{steady-start, queued-full, queued-sound}
 use Rattle.rules.proofs.Send.{Sendable, clean-keeps, send-keeps}
 
 -- an account with its arrays whole, and sound

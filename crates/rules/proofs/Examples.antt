@@ -1,11 +1,10 @@
 -- Document 01, "Twelve proved examples", over one table: what the rules compute beside what the document says. Entry size 2048.
 -- The theorem is one computation over the whole table.
-use Prim.Native.Nat.{ℕ, _+_, _*_}
+use Prim.Native.Nat.{ℕ, _+_}
 use mathlib.Core.Path.{_≡_, refl}
-use mathlib.Core.Bool.{false}
 use mathlib.Core.List.{List, [], _∷_, map}
-use lib.ListN.{length, getD, set, replicate}
-use Rattle.limits.specs.Limits.{SLOTS, SLOT-BYTES, RING-BYTES, BATCH}
+use lib.ListN.{getD, set, replicate}
+use Rattle.limits.specs.Limits.{SLOTS, RING-BYTES, BATCH}
 use Rattle.laws.specs.Test.{every, some}
 use Rattle.laws.specs.Occurs.{upFrom}
 use Rattle.words.specs.Le.{leAt, putLe}

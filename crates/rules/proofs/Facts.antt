@@ -7,7 +7,7 @@ use lib.ListN.{length, getD, length-append}
 use lib.Seq.{getD-take, length-take-le}
 use lib.Dec.{eqb}
 use lib.Pow.{pow-mono}
-use native.Mathlib.Nat.{mul-le-mul-left, mul-le-mul, pow-zero}
+use native.Mathlib.Nat.{mul-le-mul-left, mul-le-mul}
 use native.Mathlib.Decide.{ℕ-discrete}
 use native.Mathlib.Omega.{arith}
 use borrow.Author.Tests.{ne-eqb, lt-ltb, le-ltb}
@@ -19,7 +19,7 @@ use Rattle.pool.specs.Stack.{top}
 use Rattle.pool.specs.Hands.{HAND-FREE, HAND-RECEIVE, HAND-OUT, HAND-SEND}
 use Rattle.rules.specs.declared.Account.{Account}
 use Rattle.rules.specs.Account.{handOf, freeList, pending, sendPlace, sendList, listOf}
-use Rattle.rules.specs.Sound.{sound, Sound, Full}
+use Rattle.rules.specs.Sound.{sound, Full}
 use Rattle.rules.proofs.Standing.{inHand, Standing, of-hand, top-of-hand, room-for}
 use Rattle.rules.proofs.Lists.{list-free, list-receive, list-send, around-at, length-around}
 use Rattle.rules.proofs.Sound.{sound-means, countOf, standing}

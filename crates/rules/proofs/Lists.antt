@@ -1,15 +1,13 @@
 -- The lists of an account's hands: which list a hand has, a queue's list round its ring, and which lists a change of the account leaves.
-use Prim.Native.Nat.{ℕ, zero, suc, _+_, _-_, _*_, _%_, _≤_, _<_}
+use Prim.Native.Nat.{ℕ, zero, suc, _+_, _-_, _%_, _≤_, _<_}
 use mathlib.Core.Path.{_≡_, refl, sym, ap, _∙_}
-use mathlib.Core.Bool.{Bool, true, false}
 use mathlib.Core.List.{List, [], _∷_, _++_}
 use lib.ListN.{length, getD, set}
 use lib.Seq.{getD-set-same, getD-set-other}
-use lib.Dec.{eqb, ltb}
-use native.Mathlib.Decide.{ℕ-discrete, decLt}
+use native.Mathlib.Decide.{decLt}
 use native.Mathlib.Omega.{arith}
-use borrow.Author.Tests.{eq-eqb, ne-eqb, lt-ltb, le-ltb}
-use Rattle.limits.specs.Limits.{SENDS, SLOTS}
+use borrow.Author.Tests.{ne-eqb, lt-ltb, le-ltb}
+use Rattle.limits.specs.Limits.{SLOTS}
 use Rattle.pool.specs.declared.FreeStack.{FreeStack}
 use Rattle.pool.specs.Hands.{HAND-FREE, HAND-RECEIVE, HAND-OUT, HAND-SEND}
 use Rattle.rules.specs.declared.Account.{Account}

@@ -1,30 +1,28 @@
 -- Fresh is sound; one packet, a batch and a release keep an account sound, and no id is lost or made. Each is one move of an id on or off
 -- the free stack, or a run of them; a batch goes through the one induction over `takeMany`.
-use Prim.Native.Nat.{ℕ, zero, suc, _+_, _-_, _%_, _≤_, _<_, min}
+use Prim.Native.Nat.{ℕ, zero, suc, _+_, _-_, _≤_, _<_, min}
 use mathlib.Core.Path.{_≡_, refl, sym, ap, _∙_}
-use mathlib.Core.Bool.{Bool, true, false}
 use mathlib.Core.List.{List, []}
 use lib.ListN.{length, getD, set, take, length-set, length-replicate, getD-replicate, replicate}
-use lib.Dec.{eqb, ltb, leb}
+use lib.Dec.{eqb, ltb}
 use native.Mathlib.Decide.{ℕ-discrete, decLt}
 use native.Mathlib.Nat.{zero-add}
 use native.Mathlib.Omega.{arith}
-use borrow.Author.Tests.{eq-eqb, ne-eqb, le-leb, lt-ltb, le-ltb, eqb-false}
-use lib.Arith.{lt-of-le-ne}
+use borrow.Author.Tests.{eq-eqb, ne-eqb, le-leb, lt-ltb, le-ltb}
 use Rattle.limits.specs.Limits.{ENTRIES, SENDS, SLOTS}
-use Rattle.laws.specs.Occurs.{ind, occurs, upFrom}
+use Rattle.laws.specs.Occurs.{ind, occurs}
 use Rattle.laws.proofs.Test.{both-same, false-not-true}
 use Rattle.laws.proofs.Occurs.{occurs-stored, length-upFrom, take-upFrom, occurs-upFrom}
 use Rattle.pool.specs.declared.FreeStack.{FreeStack}
-use Rattle.pool.specs.Stack.{content, top, popped, pushed}
+use Rattle.pool.specs.Stack.{top, popped, pushed}
 use Rattle.pool.specs.Hands.{HAND-FREE, HAND-RECEIVE, HAND-OUT, HAND-SEND}
 use Rattle.pool.proofs.Stack.{occurs-popped, occurs-pushed}
 use Rattle.rules.specs.declared.Account.{Account}
-use Rattle.rules.specs.Handles.{Handles, Room}
-use Rattle.rules.specs.Account.{handOf, waiting, around, sendList, listOf, held, opened, withPool}
+use Rattle.rules.specs.Handles.{Room}
+use Rattle.rules.specs.Account.{handOf, around, sendList, listOf, held, opened, withPool}
 use Rattle.rules.specs.Sound.{InRange, Indices, Sound, Full}
 use Rattle.rules.specs.Packets.{taken, Taking, oneMore, takeMany, released}
-use Rattle.rules.proofs.Standing.{inHand, Placed, moves, Standing, pop-keeps, push-keeps, room-for}
+use Rattle.rules.proofs.Standing.{inHand, Standing, pop-keeps, push-keeps, room-for}
 use Rattle.rules.proofs.Lists.{list-free, list-receive, list-send, list-beyond, each-hand, pool-list}
 use Rattle.rules.proofs.Sound.{countOf, standing, sound-of}
 

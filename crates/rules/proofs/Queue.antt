@@ -1,6 +1,6 @@
 -- One send queue of a sound account, an id at a time. To give the oldest id back is a move from the queue onto the stack, to send one a move
 -- from the application to the queue's end; each keeps where ids stand.
-use Prim.Native.Nat.{ℕ, suc, _+_, _*_, _%_, _≤_, _<_}
+use Prim.Native.Nat.{ℕ, suc, _+_, _*_, _%_, _<_}
 use mathlib.Core.Path.{_≡_, refl, sym, ap, _∙_}
 use mathlib.Core.List.{List, [], _∷_}
 use lib.ListN.{length, getD, set, length-set}
@@ -14,7 +14,7 @@ use Rattle.laws.specs.Occurs.{ind, occurs, sumTo}
 use Rattle.laws.proofs.Occurs.{occurs-append}
 use Rattle.laws.proofs.Sum.{sum-grows}
 use Rattle.pool.specs.declared.FreeStack.{FreeStack}
-use Rattle.pool.specs.Stack.{content, pushed}
+use Rattle.pool.specs.Stack.{pushed}
 use Rattle.pool.specs.Hands.{HAND-FREE, HAND-OUT, HAND-SEND}
 use Rattle.pool.proofs.Stack.{occurs-pushed}
 use Rattle.rules.specs.declared.Account.{Account}

@@ -1,25 +1,23 @@
 -- A receive, a turn at a time. A turn passes the slot's old id to the application and takes a free one into the slot: two moves, so the
 -- account stays sound and no id is lost or made. A taken slot reads as not done, so a receive of any n ends within one ring.
-use Prim.Native.Nat.{ℕ, zero, suc, _+_, _-_, _*_, _%_, _≤_, _<_, min}
+use Prim.Native.Nat.{ℕ, zero, suc, _+_, _-_, _%_, _≤_, _<_, min}
 use mathlib.Core.Path.{_≡_, refl, sym, ap, _∙_}
 use mathlib.Core.Bool.{Bool, true, false}
-use mathlib.Core.List.{List, []}
+use mathlib.Core.List.{List}
 use lib.ListN.{length, getD, set, take, length-set}
 use lib.Arith.{lt-of-le-ne}
 use lib.Dec.{eqb, ltb, leb}
 use native.Mathlib.Decide.{ℕ-discrete}
-use native.Mathlib.Nat.{add-zero, zero-add, suc-add}
+use native.Mathlib.Nat.{zero-add, suc-add}
 use native.Mathlib.Omega.{arith}
-use borrow.Author.Tests.{eq-eqb, ne-eqb, ltb-true, leb-true, eqb-true}
-use Rattle.limits.specs.Limits.{SLOTS, SLOT-BYTES, RING-BYTES}
-use Rattle.laws.specs.Test.{both}
-use Rattle.laws.specs.Occurs.{ind, occurs, sumTo}
+use borrow.Author.Tests.{ne-eqb, ltb-true, leb-true, eqb-true}
+use Rattle.limits.specs.Limits.{SLOTS, RING-BYTES}
+use Rattle.laws.specs.Occurs.{ind, occurs}
 use Rattle.laws.proofs.Test.{false-not-true, both-false}
 use Rattle.laws.proofs.Occurs.{ind-le, occurs-set, occurs-at, occurs-stored}
-use Rattle.words.specs.Slots.{slotAt, statusAt, lengthAt, isDone, isEnd, offered}
+use Rattle.words.specs.Slots.{statusAt, lengthAt, isDone, isEnd, offered}
 use Rattle.words.proofs.Slots.{length-offered, offered-status, offered-other}
-use Rattle.pool.specs.declared.FreeStack.{FreeStack}
-use Rattle.pool.specs.Stack.{content, top, popped}
+use Rattle.pool.specs.Stack.{top, popped}
 use Rattle.pool.specs.Hands.{HAND-FREE, HAND-RECEIVE, HAND-OUT}
 use Rattle.pool.proofs.Stack.{occurs-popped}
 use Rattle.rules.specs.declared.Account.{Account}
@@ -27,10 +25,10 @@ use Rattle.rules.specs.declared.Stop.{Stop}
 use Rattle.rules.specs.declared.Stop.the-variants.{Asked, NotDone, Split, TooLong, NoBuffer}
 use Rattle.rules.specs.declared.Found.{Found}
 use Rattle.rules.specs.declared.Found.the-variants.{Nothing, Frame}
-use Rattle.rules.specs.Handles.{Handles, Room}
-use Rattle.rules.specs.Account.{nextSlot, sendList, listOf, held, withReceive}
+use Rattle.rules.specs.Handles.{Room}
+use Rattle.rules.specs.Account.{nextSlot, held, withReceive}
 use Rattle.rules.specs.Sound.{Sound, Full}
-use Rattle.rules.specs.Receive.{orStop, judged, found, Receiving, oldId, received, next, Stopping, receiveRule, slotBefore}
+use Rattle.rules.specs.Receive.{orStop, found, Receiving, oldId, received, next, Stopping, receiveRule}
 use Rattle.rules.proofs.Standing.{moves, Standing, of-hand, pop-keeps, pass-keeps}
 use Rattle.rules.proofs.Lists.{list-free, list-receive, receive-list}
 use Rattle.rules.proofs.Sound.{countOf, standing, sound-of}

@@ -1,26 +1,25 @@
 -- Cleaning and a send, as runs of an id given back and of an id sent: a whole batch, batch after batch, and packet after packet. Where ids
 -- stand is kept through each, and no id is lost or made. Cleaning ends because every batch given back makes the queue shorter.
-use Prim.Native.Nat.{ℕ, zero, suc, _+_, _-_, _%_, _≤_, _<_, min}
-use mathlib.Core.Path.{_≡_, refl, sym, ap, _∙_}
+use Prim.Native.Nat.{ℕ, zero, suc, _+_, _%_, _≤_, _<_}
+use mathlib.Core.Path.{_≡_, refl, sym, _∙_}
 use mathlib.Core.Bool.{Bool, true, false}
 use mathlib.Core.List.{List}
-use lib.ListN.{length, getD, set, take}
+use lib.ListN.{length, getD, take}
 use lib.Seq.{getD-set-other}
 use lib.Dec.{eqb, leb}
 use native.Mathlib.Omega.{arith}
 use borrow.Author.Tests.{lt-leb, leb-true}
 use Rattle.limits.specs.Limits.{SLOTS, BATCH}
 use Rattle.laws.specs.Occurs.{ind, occurs}
-use Rattle.laws.proofs.Test.{both-left, false-not-true}
+use Rattle.laws.proofs.Test.{both-left}
 use Rattle.laws.proofs.Occurs.{occurs-more}
-use Rattle.words.specs.Slots.{sentAt}
 use Rattle.pool.specs.declared.FreeStack.{FreeStack}
 use Rattle.pool.specs.Hands.{HAND-OUT, HAND-SEND}
 use Rattle.rules.specs.declared.Account.{Account}
 use Rattle.rules.specs.Handles.{Handles, handleAt}
-use Rattle.rules.specs.Account.{nextSlot, waiting, sendPlace, held}
+use Rattle.rules.specs.Account.{waiting, held}
 use Rattle.rules.specs.Sound.{Sound, Full}
-use Rattle.rules.specs.Send.{Cleaning, oldest, givenBack, giveBack, batchLast, cleanable, cleanRule, Sending, packetSent, sendRule}
+use Rattle.rules.specs.Send.{Cleaning, givenBack, giveBack, cleanable, cleanRule, Sending, packetSent, sendRule}
 use Rattle.rules.proofs.Lists.{queued}
 use Rattle.rules.proofs.Queue.{Steady, given-steady, given-held, given-out, sent-steady, sent-held}
 

@@ -1,6 +1,6 @@
 -- The test and the facts of soundness say the same, and what they say of where ids stand is `Standing`.
-use Prim.Native.Nat.{ℕ, zero, suc, _+_, _*_, _^_, _≤_, _<_}
-use mathlib.Core.Path.{_≡_, refl, sym, ap, _∙_}
+use Prim.Native.Nat.{ℕ, _+_, _*_, _^_, _≤_, _<_}
+use mathlib.Core.Path.{_≡_, refl, ap}
 use mathlib.Core.Bool.{Bool, true, false}
 use mathlib.Core.List.{List, [], _∷_}
 use lib.ListN.{length, getD}
@@ -8,16 +8,16 @@ use lib.Dec.{eqb, ltb, leb}
 use native.Mathlib.Decide.{ℕ-discrete, decLt}
 use native.Mathlib.Omega.{arith}
 use borrow.Author.Tests.{eq-eqb, ne-eqb, lt-ltb, le-ltb, le-leb, eqb-true, ltb-true, leb-true}
-use Rattle.limits.specs.Limits.{ENTRIES, SMALLEST-SIZE, SIZE-DOUBLINGS, RECEIVES, SENDS, SLOTS, HEADROOM, BATCH}
-use Rattle.laws.specs.Test.{pick, both, either, every, some}
+use Rattle.limits.specs.Limits.{ENTRIES, SMALLEST-SIZE, SIZE-DOUBLINGS, RECEIVES, SENDS, SLOTS, HEADROOM}
+use Rattle.laws.specs.Test.{pick, both, either, every}
 use Rattle.laws.specs.Occurs.{ind, occurs}
-use Rattle.laws.proofs.Test.{both-left, both-right, both-true, both-false, every-at, every-all, some-at, some-found}
+use Rattle.laws.proofs.Test.{both-left, both-right, both-true, every-at, every-all, some-at, some-found}
 use Rattle.pool.specs.declared.Handle.{Handle}
-use Rattle.pool.specs.Hands.{HAND-FREE, HAND-OUT, HAND-SEND}
+use Rattle.pool.specs.Hands.{HAND-OUT}
 use Rattle.rules.specs.declared.Account.{Account}
 use Rattle.rules.specs.Account.{handOf, listOf}
 use Rattle.rules.specs.Sound.{isSize, inRange, InRange, isGood, Good, Indices, indices, ringPlaced, queuesPlaced, allBelow, hands, inPlace, sound, Sound, Full}
-use Rattle.rules.proofs.Standing.{inHand, Placed, Standing}
+use Rattle.rules.proofs.Standing.{inHand, Standing}
 use Rattle.rules.proofs.Lists.{list-free, list-out, list-beyond}
 
 -- ---- numbers

@@ -2,21 +2,20 @@
 -- the stack, so after 512 the account is sound with a started ring, and no id is lost or made.
 use Prim.Native.Nat.{ℕ, zero, suc, _+_, _-_, _≤_, _<_}
 use mathlib.Core.Path.{_≡_, refl, sym, ap, _∙_}
-use mathlib.Core.Bool.{Bool, true, false}
-use mathlib.Core.List.{List, []}
-use lib.ListN.{length, getD, set, take, length-set}
+use mathlib.Core.Bool.{false}
+use mathlib.Core.List.{List}
+use lib.ListN.{length, set, take, length-set}
 use lib.Seq.{take-all}
 use lib.Dec.{eqb}
 use native.Mathlib.Decide.{ℕ-discrete}
 use native.Mathlib.Omega.{arith}
-use borrow.Author.Tests.{eq-eqb, ne-eqb}
-use Rattle.limits.specs.Limits.{ENTRIES, SLOTS}
+use borrow.Author.Tests.{ne-eqb}
+use Rattle.limits.specs.Limits.{SLOTS}
 use Rattle.laws.specs.Test.{pick}
 use Rattle.laws.specs.Occurs.{ind, occurs}
-use Rattle.laws.proofs.Test.{false-not-true}
 use Rattle.laws.proofs.Occurs.{occurs-stored}
-use Rattle.pool.specs.Stack.{content, top, popped}
-use Rattle.pool.specs.Hands.{HAND-FREE, HAND-RECEIVE, HAND-OUT}
+use Rattle.pool.specs.Stack.{content, top}
+use Rattle.pool.specs.Hands.{HAND-FREE, HAND-RECEIVE}
 use Rattle.pool.proofs.Stack.{occurs-popped}
 use Rattle.rules.specs.declared.Account.{Account}
 use Rattle.rules.specs.Account.{listOf, held, withReceive}

@@ -1,17 +1,16 @@
 -- What a verdict says: each test of a call that is done held, and each handle of a send that is done is good and repeats no earlier one.
 use Prim.Native.Nat.{ℕ, zero, suc, _+_, _≤_, _<_}
-use mathlib.Core.Path.{_≡_, refl, sym, ap, _∙_}
+use mathlib.Core.Path.{_≡_, refl}
 use mathlib.Core.Bool.{Bool, true, false}
-use mathlib.Core.List.{List}
-use lib.ListN.{length, getD, take}
+use lib.ListN.{length, take}
 use lib.Seq.{getD-take, length-take-le}
 use lib.Dec.{leb}
 use native.Mathlib.Decide.{ℕ-discrete}
 use native.Mathlib.Omega.{arith}
-use borrow.Author.Tests.{eqb-true, leb-true, le-leb}
+use borrow.Author.Tests.{eqb-true, leb-true}
 use lib.Arith.{lt-of-le-ne}
 use Rattle.laws.specs.Occurs.{occurs}
-use Rattle.laws.proofs.Test.{both-left, both-right, both-true}
+use Rattle.laws.proofs.Test.{both-left, both-right}
 use Rattle.laws.proofs.Occurs.{occurs-at}
 use Rattle.rules.specs.declared.Account.{Account}
 use Rattle.rules.specs.declared.Refusal.{Refusal}

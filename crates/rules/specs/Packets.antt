@@ -1,6 +1,6 @@
 -- Document 01, "Pool rules": what each call on packets answers and leaves.
 use Prim.Native.Nat.{ℕ, zero, suc, _+_, _-_, _*_, min}
-use mathlib.Core.Bool.{Bool, true, false}
+use mathlib.Core.Bool.{true, false}
 use mathlib.Core.List.{List, [], map}
 use lib.ListN.{length, getD, set, take, drop, replicate}
 use lib.Seq.{sets}
@@ -13,8 +13,6 @@ use Rattle.pool.specs.declared.Handle.{Handle}
 use Rattle.pool.specs.Stack.{top, popped, pushed}
 use Rattle.pool.specs.Hands.{HAND-FREE, HAND-OUT}
 use Rattle.rules.specs.declared.Account.{Account}
-use Rattle.rules.specs.declared.Refusal.{Refusal}
-use Rattle.rules.specs.declared.Verdict.{Verdict}
 use Rattle.rules.specs.declared.Verdict.the-variants.{Done, Refused}
 use Rattle.rules.specs.declared.Kept.{Kept}
 use Rattle.rules.specs.declared.Taken.{Taken}
@@ -24,7 +22,7 @@ use Rattle.rules.specs.declared.Counts.{Counts}
 use Rattle.rules.specs.Numbers.{onVerdict}
 use Rattle.rules.specs.Handles.{Handles, putHandle, noHandle}
 use Rattle.rules.specs.Account.{receiveList, waiting, opened, noAccount, withPool}
-use Rattle.rules.specs.Refusals.{sizeGiven, freshVerdict, countsVerdict, packetFits, takeVerdict, batchOf, batchVerdict, handleVerdict, viewVerdict, cloneVerdict, headroomVerdict}
+use Rattle.rules.specs.Refusals.{sizeGiven, freshVerdict, countsVerdict, takeVerdict, batchOf, batchVerdict, handleVerdict, viewVerdict, cloneVerdict, headroomVerdict}
 
 -- ---- fresh, and the counts
 

@@ -1,7 +1,7 @@
 -- Document 01, "Handles and soundness": as facts in the document's order, and as a test. proofs/Sound.antt has the laws both ways.
 use Prim.Native.Nat.{ℕ, _+_, _*_, _%_, _^_, _≤_, _<_}
 use mathlib.Core.Path.{_≡_}
-use mathlib.Core.Bool.{Bool, true, false, not}
+use mathlib.Core.Bool.{Bool, true, false}
 use mathlib.Core.List.{List, [], _∷_}
 use lib.ListN.{length, getD}
 use lib.Dec.{eqb, ltb, leb}
@@ -11,7 +11,7 @@ use Rattle.laws.specs.Occurs.{ind, occurs}
 use Rattle.pool.specs.declared.Handle.{Handle}
 use Rattle.pool.specs.Hands.{HAND-OUT, HAND-SEND}
 use Rattle.rules.specs.declared.Account.{Account}
-use Rattle.rules.specs.Account.{handOf, receiveList, sendList, listOf}
+use Rattle.rules.specs.Account.{handOf, listOf}
 
 -- ---- numbers
 

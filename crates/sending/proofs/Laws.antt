@@ -1,6 +1,6 @@
 -- What the tests of a send give the loops: in a sound account all that is pending is known and has room on the stack, and every handle that
 -- passed has an address and a length that a descriptor holds. And how the loops' answers make the call's.
-use Prim.Native.Nat.{ℕ, _+_, _%_, _≤_, _<_, min}
+use Prim.Native.Nat.{ℕ, _≤_, _<_, min}
 use mathlib.Core.Path.{_≡_}
 use mathlib.Core.Bool.{true}
 use mathlib.Core.List.{List}
@@ -15,14 +15,14 @@ use Rattle.rules.specs.declared.Verdict.the-variants.{Done}
 use Rattle.rules.specs.Handles.{Handles, handleAt}
 use Rattle.rules.specs.Account.{waiting}
 use Rattle.rules.specs.Sound.{sound, Full, Good}
-use Rattle.rules.specs.Refusals.{ringsFit, sendable, sendVerdict}
-use Rattle.rules.specs.Send.{Cleaning, cleanRule, cleaning, cleaned, Sending, sendRule, sending, roomFor, sentAfter, AfterSend, sendEnd}
+use Rattle.rules.specs.Refusals.{sendVerdict}
+use Rattle.rules.specs.Send.{Cleaning, cleanRule, Sending, sendRule, sending, roomFor, sentAfter, sendEnd}
 use Rattle.rules.proofs.Facts.{bounds, sent-known, room-for-pending}
 use Rattle.rules.proofs.Sound.{sound-means}
 use Rattle.rules.proofs.Verdicts.{room-means, handles-done, sendable-good}
 use Rattle.rules.proofs.Calls.{send-done}
 use Rattle.rules.proofs.Send.{give-clean, clean-holds}
-use Rattle.sends.specs.Lent.{Cleanable, Described, Writable}
+use Rattle.sends.specs.Lent.{Cleanable, Writable}
 
 -- a cleaning's index stays in the ring
 pub clean-place : (batch : ℕ) (sent : List ℕ) (q tx : ℕ) (ring : List ℕ) (turns : ℕ) (w : Cleaning) → w .clean < SLOTS

@@ -10,7 +10,7 @@ use Rattle.limits.specs.Limits.{ENTRIES}
 use Rattle.laws.specs.Test.{both, either, every}
 use Rattle.pool.specs.Hands.{HAND-OUT}
 use Rattle.rules.specs.declared.Account.{Account}
-use Rattle.rules.specs.Account.{handOf, listOf}
+use Rattle.rules.specs.Account.{listOf}
 use Rattle.rules.specs.Sound.{inRange, ringPlaced, queuesPlaced, hands}
 
 -- whether all went well so far, and the marks

@@ -1,5 +1,5 @@
 -- `rings::fill` meets its contract: what is left to fill at the loop's head is what was to fill at the start. Assumes nothing.
-use Prim.Native.Nat.{_+_, _-_, _≤_}
+use Prim.Native.Nat.{_-_, _≤_}
 use mathlib.Core.Path.{_≡_, sym, ap, _∙_}
 use lib.ListN.{length}
 use native.Mathlib.Omega.{arith}

@@ -1,9 +1,8 @@
 -- `rounds::addresses` is safe: every place that it reads or writes is there. Assumes nothing.
-use Prim.Native.Nat.{_-_, _^_, _≤_, _<_}
+use Prim.Native.Nat.{_-_, _≤_}
 use mathlib.Core.Path.{_≡_}
 use lib.ListN.{length}
 use borrow.Author.Needs.{needs}
-use Rattle.limits.specs.Limits.{RING-BYTES}
 use Rattle.rounds.proofs.addresses.Statement.{statement}
 use Rattle.rounds.proofs.addresses.Tie as tie
 

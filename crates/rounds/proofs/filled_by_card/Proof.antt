@@ -1,5 +1,5 @@
 -- `rounds::filled_by_card` is safe: every place that it reads or writes is there. Assumes nothing.
-use Prim.Native.Nat.{_-_, _^_, _≤_, _<_}
+use Prim.Native.Nat.{_-_, _≤_}
 use mathlib.Core.Path.{_≡_}
 use lib.ListN.{length}
 use borrow.Author.Needs.{needs}

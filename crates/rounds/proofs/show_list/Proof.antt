@@ -1,9 +1,6 @@
 -- `rounds::show_list` is safe: every place that it reads or writes is there. Assumes nothing.
 use Prim.Native.Nat.{_-_, _^_, _≤_, _<_}
-use mathlib.Core.Path.{_≡_}
-use lib.ListN.{length}
 use borrow.Author.Needs.{needs}
-use Rattle.limits.specs.Limits.{RING-BYTES}
 use Rattle.rounds.proofs.show_list.Statement.{statement}
 use Rattle.rounds.proofs.show_list.Tie as tie
 
