@@ -1,0 +1,1 @@
+// The theorems that a customer files with a pour. There is no code here.
