@@ -19,7 +19,7 @@ use Rattle.rules.proofs.Calls.{Whole, fresh-whole, take-keeps, batch-keeps, rel
 use Rattle.promises.specs.History.{Step, History, counts, take, batch, release, truncate, clone, view, headroom, start, receive, send, fresh, call}
 
 -- a fresh account that answered 0 had numbers in their ranges
-fresh-passed : (pool entries size receives sends : ℕ) → freshCall pool entries size receives sends .verdict ≡ Done → freshVerdict entries size receives sends ≡ Done
+pub fresh-passed : (pool entries size receives sends : ℕ) → freshCall pool entries size receives sends .verdict ≡ Done → freshVerdict entries size receives sends ≡ Done
 unfolding freshCall
 fresh-passed pool entries size receives sends e = by-verdict (freshVerdict entries size receives sends) refl
   where
