@@ -1,0 +1,164 @@
+-- Demand 3 in a reader's words, over every history: each buffer is in exactly one hand; a started receive ring has exactly 512 and one that
+-- has not started none; a send queue never has more than 511. An id's recorded hand is one number, so at most one list has it.
+use Prim.Native.Nat.{ℕ, zero, suc, _+_, _-_, _≤_, _<_}
+use mathlib.Core.Path.{_≡_, refl, sym, ap, _∙_}
+use mathlib.Core.Bool.{Bool, true, false}
+use mathlib.Core.List.{List}
+use lib.ListN.{length}
+use lib.Dec.{eqb, ltb, leb}
+use native.Mathlib.Decide.{ℕ-discrete, decLt}
+use native.Mathlib.Omega.{arith}
+use borrow.Author.Tests.{eq-eqb, ne-eqb, lt-ltb, le-ltb}
+use Rattle.limits.specs.Limits.{SLOTS}
+use Rattle.laws.specs.Test.{pick}
+use Rattle.laws.specs.Occurs.{ind, occurs, sumTo}
+use Rattle.laws.proofs.Occurs.{ind-le}
+use Rattle.laws.proofs.Sum.{sum-same}
+use Rattle.pool.specs.Hands.{HAND-FREE, HAND-RECEIVE, HAND-SEND}
+use Rattle.pool.specs.declared.Handle.{Handle}
+use Rattle.rules.specs.declared.Account.{Account}
+use Rattle.rules.specs.declared.Kept.{Kept}
+use Rattle.rules.specs.declared.Taken.{Taken}
+use Rattle.rules.specs.declared.Verdict.the-variants.{Done}
+use Rattle.rules.specs.Handles.{Handles}
+use Rattle.rules.specs.Account.{handOf, freeList, receiveList, pending, sendList, held, opened}
+use Rattle.rules.specs.Sound.{Sound, Full}
+use Rattle.rules.specs.Refusals.{freshVerdict, takeVerdict, batchVerdict, handleVerdict, cloneVerdict, startVerdict, receiveVerdict, sendVerdict}
+use Rattle.rules.specs.Packets.{Batched, Cloned, freshCall, taken, takeCall, batchCall, released, releaseCall, cloneCall}
+use Rattle.rules.specs.Receive.{AfterStart, AfterReceive, startCall, receiveCall}
+use Rattle.rules.specs.Send.{AfterSend, sendCall}
+use Rattle.rules.proofs.Verdicts.{verdict-holds}
+use Rattle.rules.proofs.Lists.{list-free, list-receive, list-send, length-around}
+use Rattle.promises.specs.History.{Step, History}
+use Rattle.promises.specs.History as h
+use Rattle.promises.specs.Ledger.{given, returned, buffers}
+use Rattle.promises.proofs.Always.{fresh-passed, always-whole}
+use Rattle.promises.proofs.Balance.{balance}
+
+-- of n hands from HAND-SEND on, a number is one at most, and that only if it is below their end
+few-hands : (hand n : ℕ) → sumTo n (λ q. ind (eqb hand (HAND-SEND + q))) ≤ ind (ltb hand (HAND-SEND + n))
+unfolding sumTo
+few-hands hand zero = omega arith
+few-hands hand (suc n) = by-case (ℕ-discrete hand (HAND-SEND + n)) (few-hands hand n)
+  where
+    by-case : Dec (hand ≡ HAND-SEND + n) → sumTo n (λ q. ind (eqb hand (HAND-SEND + q))) ≤ ind (ltb hand (HAND-SEND + n))
+        → sumTo n (λ q. ind (eqb hand (HAND-SEND + q))) + ind (eqb hand (HAND-SEND + n)) ≤ ind (ltb hand (HAND-SEND + suc n))
+    by-case (yes e) before =
+        rw (eq-eqb hand (HAND-SEND + n) e, lt-ltb hand (HAND-SEND + suc n) (omega arith))
+        (omega (arith, rw (le-ltb hand (HAND-SEND + n) (omega arith)) at before))
+    by-case (no ne) before = rw (ne-eqb hand (HAND-SEND + n) ne) (later (decLt hand (HAND-SEND + n)) before)
+      where
+        later : Dec (hand < HAND-SEND + n) → sumTo n (λ q. ind (eqb hand (HAND-SEND + q))) ≤ ind (ltb hand (HAND-SEND + n))
+            → sumTo n (λ q. ind (eqb hand (HAND-SEND + q))) + 0 ≤ ind (ltb hand (HAND-SEND + suc n))
+        later (yes below) b = rw (lt-ltb hand (HAND-SEND + suc n) (omega arith)) (omega (arith, rw (lt-ltb hand (HAND-SEND + n) below) at b))
+        later (no past) b = omega (arith, rw (le-ltb hand (HAND-SEND + n) (omega arith)) at b)
+
+-- none of them where it is below them all
+no-hands : (hand n : ℕ) → hand < HAND-SEND → sumTo n (λ q. ind (eqb hand (HAND-SEND + q))) ≡ 0
+unfolding sumTo
+no-hands hand zero below = refl
+no-hands hand (suc n) below = rw (no-hands hand n below, ne-eqb hand (HAND-SEND + n) (λ e. omega arith))
+
+module _ {a : Account} (s : Sound a) (x : ℕ) (below : x < a .entries) where
+  -- what the lists have of a buffer, by its recorded hand
+  held-by-hand : held x a ≡ ind (eqb (handOf a x) HAND-FREE) + ind (eqb (handOf a x) HAND-RECEIVE) + sumTo (a .sends) (λ q. ind (eqb (handOf a x) (HAND-SEND + q)))
+  unfolding held
+  held-by-hand =
+      let free : occurs x (freeList a) ≡ ind (eqb (handOf a x) HAND-FREE) = rw (list-free a) at (s .placed x HAND-FREE below (λ e. omega arith)) in
+      let receive : occurs x (receiveList a) ≡ ind (eqb (handOf a x) HAND-RECEIVE) = rw (list-receive a) at (s .placed x HAND-RECEIVE below (λ e. omega arith)) in
+      let sent : sumTo (a .sends) (λ q. occurs x (sendList a q)) ≡ sumTo (a .sends) (λ q. ind (eqb (handOf a x) (HAND-SEND + q)))
+      = sum-same (a .sends) _ _ (λ q l. rw (list-send a q l) at (s .placed x (HAND-SEND + q) below (λ e. omega arith))) in
+      rw (free, receive, sent)
+
+  -- so at most one list has it, once
+  held-once : held x a ≤ 1
+  held-once = rw held-by-hand (by-case (decLt (handOf a x) HAND-SEND))
+    where
+      by-case : Dec (handOf a x < HAND-SEND)
+          → ind (eqb (handOf a x) HAND-FREE) + ind (eqb (handOf a x) HAND-RECEIVE) + sumTo (a .sends) (λ q. ind (eqb (handOf a x) (HAND-SEND + q))) ≤ 1
+      by-case (yes low) = rw (no-hands (handOf a x) (a .sends) low) (by-free (ℕ-discrete (handOf a x) HAND-FREE))
+        where
+          by-free : Dec (handOf a x ≡ HAND-FREE) → ind (eqb (handOf a x) HAND-FREE) + ind (eqb (handOf a x) HAND-RECEIVE) + 0 ≤ 1
+          by-free (yes e) = rw e (omega arith)
+          by-free (no ne) = rw (ne-eqb (handOf a x) HAND-FREE ne) (omega (arith, ind-le (eqb (handOf a x) HAND-RECEIVE)))
+      by-case (no high) =
+          rw (ne-eqb (handOf a x) HAND-FREE (λ e. omega arith), ne-eqb (handOf a x) HAND-RECEIVE (λ e. omega arith))
+          (omega (arith, few-hands (handOf a x) (a .sends), ind-le (ltb (handOf a x) (HAND-SEND + a .sends))))
+
+-- ---- over every history
+
+-- a history's account has as many entries as its fresh account was given
+module _ (a : Account) where
+  take-entries : (len : ℕ) → takeCall a len .account .entries ≡ a .entries
+  unfolding takeCall taken
+  take-entries len = verdict-holds (λ (r : Taken). r .account .entries ≡ a .entries) (takeVerdict a len) _ _ (λ e. refl) (λ why e. refl)
+
+  batch-entries : (n len : ℕ) (lists : Handles) → batchCall a n len lists .answer .account .entries ≡ a .entries
+  unfolding batchCall
+  batch-entries n len lists = verdict-holds (λ (r : Batched). r .answer .account .entries ≡ a .entries) (batchVerdict a n lists) _ _ (λ e. refl) (λ why e. refl)
+
+  release-entries : (h : Handle) → releaseCall a h .account .entries ≡ a .entries
+  unfolding releaseCall released
+  release-entries h = verdict-holds (λ (r : Kept). r .account .entries ≡ a .entries) (handleVerdict a h) _ _ (λ e. refl) (λ why e. refl)
+
+  clone-entries : (h : Handle) (memory : List ℕ) → cloneCall a h memory .answer .account .entries ≡ a .entries
+  unfolding cloneCall taken
+  clone-entries h memory = verdict-holds (λ (r : Cloned). r .answer .account .entries ≡ a .entries) (cloneVerdict a h (length memory)) _ _ (λ e. refl) (λ why e. refl)
+
+  start-entries : (q : ℕ) (ring addresses : List ℕ) → startCall a q ring addresses .answer .account .entries ≡ a .entries
+  unfolding startCall
+  start-entries q ring addresses = verdict-holds (λ (r : AfterStart). r .answer .account .entries ≡ a .entries) (startVerdict a q ring addresses) _ _ (λ e. refl) (λ why e. refl)
+
+  receive-entries : (q : ℕ) (ring addresses : List ℕ) (n : ℕ) (lists : Handles) → receiveCall a q ring addresses n lists .answer .account .entries ≡ a .entries
+  unfolding receiveCall
+  receive-entries q ring addresses n lists =
+      verdict-holds (λ (r : AfterReceive). r .answer .account .entries ≡ a .entries) (receiveVerdict a q ring addresses n lists) _ _ (λ e. refl) (λ why e. refl)
+
+  send-entries : (q : ℕ) (ring addresses : List ℕ) (lists : Handles) → sendCall a q ring addresses lists .answer .account .entries ≡ a .entries
+  unfolding sendCall
+  send-entries q ring addresses lists =
+      verdict-holds (λ (r : AfterSend). r .answer .account .entries ≡ a .entries) (sendVerdict a q ring addresses lists) _ _ (λ e. refl) (λ why e. refl)
+
+step-entries : {a b : Account} → Step a b → b .entries ≡ a .entries
+step-entries {a} (h.counts r e) = refl
+step-entries {a} (h.take len r e) = rw e (take-entries a len)
+step-entries {a} (h.batch n len lists left r e) = rw (ap (λ (o : Batched). o .answer) e) (batch-entries a n len lists)
+step-entries {a} (h.release handle r e) = rw e (release-entries a handle)
+step-entries {a} (h.truncate handle len r e) = refl
+step-entries {a} (h.clone handle memory left r e) = rw (ap (λ (o : Cloned). o .answer) e) (clone-entries a handle memory)
+step-entries {a} (h.view handle memory part e) = refl
+step-entries {a} (h.headroom handle asked memory part e) = refl
+step-entries {a} (h.start q ring addresses left r e) = rw (ap (λ (o : AfterStart). o .answer) e) (start-entries a q ring addresses)
+step-entries {a} (h.receive q ring addresses n lists left filled r e) = rw (ap (λ (o : AfterReceive). o .answer) e) (receive-entries a q ring addresses n lists)
+step-entries {a} (h.send q ring addresses lists left r e) = rw (ap (λ (o : AfterSend). o .answer) e) (send-entries a q ring addresses lists)
+
+fresh-entries : (pool entries size receives sends : ℕ) → freshVerdict entries size receives sends ≡ Done → freshCall pool entries size receives sends .account .entries ≡ entries
+unfolding freshCall opened
+fresh-entries pool entries size receives sends e = rw e
+
+pub same-entries : {a : Account} (t : History a) → a .entries ≡ buffers t
+unfolding buffers
+same-entries (h.fresh pool entries size receives sends r e done) =
+    rw e (fresh-entries pool entries size receives sends (fresh-passed pool entries size receives sends (rw e at done)))
+same-entries (h.call before t) = step-entries t ∙ same-entries before
+
+module _ {a : Account} (t : History a) where
+  -- each buffer is in exactly one of four hands: once in the free stack, the receive ring or one send queue, or else with the application,
+  -- which was given it once more than it gave it back
+  pub one-hand : (x : ℕ) → x < buffers t → (held x a + (given x t - returned x t) ≡ 1) × (returned x t ≤ given x t)
+  one-hand x below =
+      let once = held-once (always-whole t .1) x (rw (same-entries t) below) in
+      let both = rw (lt-ltb x (buffers t) below) at (balance t x) in
+      (omega arith, omega arith)
+
+  -- once started, the receive ring has exactly 512; before, none
+  pub ring-full : length (receiveList a) ≡ pick (a .started) SLOTS 0
+  ring-full = by-case (a .started) refl
+    where
+      by-case : (b : Bool) → a .started ≡ b → length (receiveList a) ≡ pick (a .started) SLOTS 0
+      by-case true e = rw e (always-whole t .0 .slots)
+      by-case false e = rw e
+
+  -- a send queue never has over 511
+  pub queue-most : (q : ℕ) → length (sendList a q) < SLOTS
+  queue-most q = rw (length-around (a .sent) q _ (pending a q)) (omega arith)
