@@ -1,13 +1,10 @@
 -- The account of every history is sound: fresh is, and every call keeps it, done or refused.
 use Prim.Native.Nat.{ℕ}
-use mathlib.Core.Path.{_≡_, refl, sym, ap, _∙_}
-use mathlib.Core.Bool.{Bool, true, false}
+use mathlib.Core.Path.{_≡_, refl, ap}
+use mathlib.Core.Bool.{true}
 use Rattle.rules.specs.declared.Account.{Account}
-use Rattle.rules.specs.declared.Kept.{Kept}
-use Rattle.rules.specs.declared.Refusal.{Refusal}
 use Rattle.rules.specs.declared.Verdict.{Verdict}
 use Rattle.rules.specs.declared.Verdict.the-variants.{Done, Refused}
-use Rattle.rules.specs.Numbers.{onVerdict}
 use Rattle.rules.specs.Refusals.{freshVerdict}
 use Rattle.rules.specs.Sound.{sound}
 use Rattle.rules.specs.Packets.{Batched, Cloned, freshCall}

@@ -1,8 +1,8 @@
 -- The ledger and the account agree. Each call moves ids between the account's lists and the application, as its answer says and no
 -- otherwise; so over a history every buffer stands once: in one of the account's lists, or with the application, given more often than
 -- given back.
-use Prim.Native.Nat.{ℕ, zero, suc, _+_, _-_, _≤_, _<_, min}
-use mathlib.Core.Path.{_≡_, refl, sym, ap, _∙_}
+use Prim.Native.Nat.{ℕ, zero, suc, _+_, _-_, _<_, min}
+use mathlib.Core.Path.{_≡_, refl, ap, _∙_}
 use mathlib.Core.Bool.{Bool, true, false}
 use mathlib.Core.List.{List}
 use lib.ListN.{length, getD, take, getD-replicate}
@@ -33,7 +33,7 @@ use Rattle.rules.proofs.Sound.{in-range-means, good-means}
 use Rattle.rules.proofs.Verdicts.{verdict-holds, room-means}
 use Rattle.rules.proofs.Packets.{taken-held, released-held, takingFrom, many-held}
 use Rattle.rules.proofs.Start.{started-held}
-use Rattle.rules.proofs.Receive.{Ready, receivingFrom, receive-held}
+use Rattle.rules.proofs.Receive.{receivingFrom, receive-held}
 use Rattle.rules.proofs.Queue.{steady-start}
 use Rattle.rules.proofs.Send.{clean-keeps, send-keeps, send-count}
 use Rattle.rules.proofs.Calls.{Whole, fresh-done, take-done, batch-done, handle-done, clone-done, start-done, receive-done, send-done, sendable-all}

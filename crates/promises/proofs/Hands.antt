@@ -1,11 +1,11 @@
 -- Demand 3 in a reader's words, over every history: each buffer is in exactly one hand; a started receive ring has exactly 512 and one that
 -- has not started none; a send queue never has more than 511. An id's recorded hand is one number, so at most one list has it.
 use Prim.Native.Nat.{ℕ, zero, suc, _+_, _-_, _≤_, _<_}
-use mathlib.Core.Path.{_≡_, refl, sym, ap, _∙_}
+use mathlib.Core.Path.{_≡_, refl, ap, _∙_}
 use mathlib.Core.Bool.{Bool, true, false}
 use mathlib.Core.List.{List}
 use lib.ListN.{length}
-use lib.Dec.{eqb, ltb, leb}
+use lib.Dec.{eqb, ltb}
 use native.Mathlib.Decide.{ℕ-discrete, decLt}
 use native.Mathlib.Omega.{arith}
 use borrow.Author.Tests.{eq-eqb, ne-eqb, lt-ltb, le-ltb}
@@ -22,7 +22,7 @@ use Rattle.rules.specs.declared.Taken.{Taken}
 use Rattle.rules.specs.declared.Verdict.the-variants.{Done}
 use Rattle.rules.specs.Handles.{Handles}
 use Rattle.rules.specs.Account.{handOf, freeList, receiveList, pending, sendList, held, opened}
-use Rattle.rules.specs.Sound.{Sound, Full}
+use Rattle.rules.specs.Sound.{Sound}
 use Rattle.rules.specs.Refusals.{freshVerdict, takeVerdict, batchVerdict, handleVerdict, cloneVerdict, startVerdict, receiveVerdict, sendVerdict}
 use Rattle.rules.specs.Packets.{Batched, Cloned, freshCall, taken, takeCall, batchCall, released, releaseCall, cloneCall}
 use Rattle.rules.specs.Receive.{AfterStart, AfterReceive, startCall, receiveCall}

@@ -1,3 +1,4 @@
 pub mod Always
 pub mod Balance
 pub mod Hands
+pub mod Never

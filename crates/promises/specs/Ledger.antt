@@ -1,7 +1,6 @@
 -- The ledger of a history, computed from the calls and their answers alone: how often answers gave an id to the application, and how often
 -- the application gave it back, released or sent. It never looks at the account's recorded hands.
 use Prim.Native.Nat.{ℕ, _+_}
-use mathlib.Core.Path.{_≡_}
 use lib.ListN.{take}
 use lib.Dec.{eqb}
 use Rattle.laws.specs.Occurs.{ind, occurs}
