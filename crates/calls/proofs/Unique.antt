@@ -1,5 +1,5 @@
 -- One outcome: no two different outcomes satisfy a public call's contract on the same input. Each contract is one equation, outcome ≡ rule,
--- so two outcomes are equal through the rule. (The parts that `view` and `headroom` return are equal byte for byte.)
+-- so two outcomes are equal through the rule. The parts that `view` and `headroom` return lie at the same place, with the same bytes.
 use Prim.Native.Nat.{ℕ}
 use mathlib.Core.Path.{_≡_, sym, ap, _∙_}
 use mathlib.Core.List.{List}
@@ -16,7 +16,7 @@ use Rattle.rules.specs.declared.Truncated.{Truncated}
 use Rattle.rules.specs.declared.Verdict.{Verdict}
 use Rattle.rules.specs.Handles.{Handles}
 use Rattle.rules.specs.Refusals.{viewVerdict, headroomVerdict}
-use Rattle.rules.specs.Packets.{freshCall, countsCall, takeCall, batched, Batched, batchCall, releaseCall, truncateCall, clonedAs, Cloned, cloneCall, viewCall, headroomCall}
+use Rattle.rules.specs.Packets.{freshCall, countsCall, takeCall, batched, Batched, batchCall, releaseCall, truncateCall, clonedAs, Cloned, cloneCall, Lent, viewCall, headroomCall}
 use Rattle.rules.specs.Receive.{startedAs, AfterStart, startCall, receivedAs, AfterReceive, receiveCall}
 use Rattle.rules.specs.Send.{sentAs, AfterSend, sendCall}
 
@@ -47,13 +47,13 @@ module _ (a : Account) where
     pub clone-unique : (memory : List ℕ) (r s : Taken) (l m : List ℕ) → clonedAs r l ≡ cloneCall a h memory → clonedAs s m ≡ cloneCall a h memory → (r ≡ s) × (l ≡ m)
     clone-unique memory r s l m p q = (ap (λ (o : Cloned). o .answer) (same p q), ap (λ (o : Cloned). o .memory) (same p q))
 
-    pub view-unique : (memory l m : List ℕ) → l ≡ viewCall a h memory → m ≡ viewCall a h memory → l ≡ m
+    pub view-unique : (memory l m : Lent) → l ≡ viewCall a h memory → m ≡ viewCall a h memory → l ≡ m
     view-unique memory l m p q = same p q
 
     pub view-verdict-unique : (bytes : ℕ) (r s : Verdict) → r ≡ viewVerdict a h bytes → s ≡ viewVerdict a h bytes → r ≡ s
     view-verdict-unique bytes r s p q = same p q
 
-    pub headroom-unique : (asked : ℕ) (memory l m : List ℕ) → l ≡ headroomCall a h asked memory → m ≡ headroomCall a h asked memory → l ≡ m
+    pub headroom-unique : (asked : ℕ) (memory l m : Lent) → l ≡ headroomCall a h asked memory → m ≡ headroomCall a h asked memory → l ≡ m
     headroom-unique asked memory l m p q = same p q
 
     pub headroom-verdict-unique : (asked bytes : ℕ) (r s : Verdict) → r ≡ headroomVerdict a h asked bytes → s ≡ headroomVerdict a h asked bytes → r ≡ s

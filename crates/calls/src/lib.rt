@@ -4,7 +4,7 @@ ghost use mathlib.Core.Path.{_≡_};
 ghost use Rattle.rules.specs.Numbers.{refusalNumber, number as numberOf};
 ghost use Rattle.rules.specs.Handles.{handles};
 ghost use Rattle.rules.specs.Refusals.{sizeGiven, viewVerdict, headroomVerdict};
-ghost use Rattle.rules.specs.Packets.{freshCall, countsCall, takeCall, batched, batchCall, releaseCall, truncateCall, clonedAs, cloneCall, viewCall, headroomCall};
+ghost use Rattle.rules.specs.Packets.{freshCall, countsCall, takeCall, batched, batchCall, releaseCall, truncateCall, clonedAs, cloneCall, lent, viewCall, headroomCall};
 ghost use Rattle.rules.specs.Receive.{startedAs, startCall, receivedAs, receiveCall};
 ghost use Rattle.rules.specs.Send.{sentAs, sendCall};
 use limits::SENDS;
@@ -171,7 +171,7 @@ pub fn view_verdict(account: Account, handle: Handle, bytes: usize) -> Verdict
 
 // A packet's own part of packet memory. A refusal is the empty part at its start.
 pub fn view<'a>(account: Account, handle: Handle, memory: &'a [u8]) -> &'a [u8]
-    ensures { λ r. ⌜ now r ≡ viewCall account handle (now (memory .entry)) ⌝ }
+    ensures { λ r. ⌜ lent r ≡ viewCall account handle (lent (memory .entry)) ⌝ }
 {
     if !sound::is_sound(account) {
         return &memory[0..0];
@@ -196,7 +196,7 @@ pub fn headroom<'a>(
     asked: usize,
     memory: &'a mut [u8],
 ) -> &'a mut [u8]
-    ensures { λ r. ⌜ now r ≡ headroomCall account handle asked (now (memory .entry)) ⌝ }
+    ensures { λ r. ⌜ lent r ≡ headroomCall account handle asked (lent (memory .entry)) ⌝ }
 {
     if !sound::is_sound(account) {
         return &mut memory[0..0];

@@ -7,7 +7,7 @@ ghost use lib.ListN.{length};
 ghost use lib.Seq.{sets};
 ghost use Rattle.rules.specs.Sound.{sound};
 ghost use Rattle.rules.specs.Refusals.{viewVerdict, cloneVerdict, headroomVerdict};
-ghost use Rattle.rules.specs.Packets.{placeOf, part, clonedAs, cloneCall, viewCall, headroomCall};
+ghost use Rattle.rules.specs.Packets.{placeOf, part, clonedAs, cloneCall, lent, viewCall, headroomCall};
 use limits::HEADROOM;
 use pool::Handle;
 use rules::Account;
@@ -37,7 +37,7 @@ fn place(size: usize, id: u16, offset: usize) -> usize
 // A packet's own part of packet memory. A refusal is the empty part at its start.
 pub fn view<'a>(account: Account, handle: Handle, memory: &'a [u8]) -> &'a [u8]
     requires { ⌜ sound account ≡ true ⌝ }
-    ensures { λ r. ⌜ now r ≡ viewCall account handle (now (memory .entry)) ⌝ }
+    ensures { λ r. ⌜ lent r ≡ viewCall account handle (lent (memory .entry)) ⌝ }
 {
     let verdict = view_verdict(account, handle, memory.len());
     match verdict {
@@ -79,7 +79,7 @@ pub fn headroom<'a>(
     memory: &'a mut [u8],
 ) -> &'a mut [u8]
     requires { ⌜ sound account ≡ true ⌝ }
-    ensures { λ r. ⌜ now r ≡ headroomCall account handle asked (now (memory .entry)) ⌝ }
+    ensures { λ r. ⌜ lent r ≡ headroomCall account handle asked (lent (memory .entry)) ⌝ }
 {
     let verdict = headroom_verdict(account, handle, asked, memory.len());
     match verdict {

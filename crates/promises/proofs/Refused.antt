@@ -2,7 +2,7 @@
 -- given, on every account, sound or forged.
 use Prim.Native.Nat.{ℕ}
 use mathlib.Core.Path.{_≡_}
-use mathlib.Core.List.{List, []}
+use mathlib.Core.List.{List}
 use lib.ListN.{length}
 use Rattle.pool.specs.declared.Handle.{Handle}
 use Rattle.rules.specs.declared.Account.{Account}
@@ -12,7 +12,7 @@ use Rattle.rules.specs.declared.Ended.the-variants as ended
 use Rattle.rules.specs.declared.Tail.the-variants.{Unwritten}
 use Rattle.rules.specs.Handles.{Handles, noHandle}
 use Rattle.rules.specs.Refusals.{takeVerdict, batchVerdict, handleVerdict, viewVerdict, cloneVerdict, headroomVerdict, startVerdict, receiveVerdict, sendVerdict}
-use Rattle.rules.specs.Packets.{takeCall, batchCall, releaseCall, truncateCall, cloneCall, viewCall, headroomCall}
+use Rattle.rules.specs.Packets.{takeCall, batchCall, releaseCall, truncateCall, cloneCall, Lent, noPart, viewCall, headroomCall}
 use Rattle.rules.specs.Receive.{startCall, receiveCall}
 use Rattle.rules.specs.Send.{sendCall}
 
@@ -40,11 +40,11 @@ module _ (a : Account) (why : Refusal) where
     unfolding cloneCall
     clone-refused memory e = rw e
 
-    pub view-refused : (memory : List ℕ) → viewVerdict a h (length memory) ≡ Refused why → viewCall a h memory ≡ []
+    pub view-refused : (memory : Lent) → viewVerdict a h (length (memory .bytes)) ≡ Refused why → viewCall a h memory ≡ noPart memory
     unfolding viewCall
     view-refused memory e = rw e
 
-    pub headroom-refused : (asked : ℕ) (memory : List ℕ) → headroomVerdict a h asked (length memory) ≡ Refused why → headroomCall a h asked memory ≡ []
+    pub headroom-refused : (asked : ℕ) (memory : Lent) → headroomVerdict a h asked (length (memory .bytes)) ≡ Refused why → headroomCall a h asked memory ≡ noPart memory
     unfolding headroomCall
     headroom-refused asked memory e = rw e
 

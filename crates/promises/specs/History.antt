@@ -16,7 +16,7 @@ use Rattle.rules.specs.declared.Taken.{Taken}
 use Rattle.rules.specs.declared.Truncated.{Truncated}
 use Rattle.rules.specs.declared.Verdict.the-variants.{Done}
 use Rattle.rules.specs.Handles.{Handles}
-use Rattle.rules.specs.Packets.{freshCall, countsCall, takeCall, batched, batchCall, releaseCall, truncateCall, clonedAs, cloneCall, viewCall, headroomCall}
+use Rattle.rules.specs.Packets.{freshCall, countsCall, takeCall, batched, batchCall, releaseCall, truncateCall, clonedAs, cloneCall, Lent, viewCall, headroomCall}
 use Rattle.rules.specs.Receive.{startedAs, startCall, receivedAs, receiveCall}
 use Rattle.rules.specs.Send.{sentAs, sendCall}
 
@@ -28,8 +28,8 @@ pub data Step (a : Account) : Account → Type 0 where
   release : (h : Handle) (r : Kept) → r ≡ releaseCall a h → Step a (r .account)
   truncate : (h : Handle) (len : ℕ) (r : Truncated) → r ≡ truncateCall a h len → Step a a
   clone : (h : Handle) (memory after : List ℕ) (r : Taken) → clonedAs r after ≡ cloneCall a h memory → Step a (r .account)
-  view : (h : Handle) (memory part : List ℕ) → part ≡ viewCall a h memory → Step a a
-  headroom : (h : Handle) (asked : ℕ) (memory part : List ℕ) → part ≡ headroomCall a h asked memory → Step a a
+  view : (h : Handle) (memory part : Lent) → part ≡ viewCall a h memory → Step a a
+  headroom : (h : Handle) (asked : ℕ) (memory part : Lent) → part ≡ headroomCall a h asked memory → Step a a
   start : (q : ℕ) (ring addresses after : List ℕ) (r : Started) → startedAs r after ≡ startCall a q ring addresses → Step a (r .account)
   receive : (q : ℕ) (ring addresses : List ℕ) (n : ℕ) (lists : Handles) (after : List ℕ) (filled : Handles) (r : Received)
       → receivedAs r after filled ≡ receiveCall a q ring addresses n lists → Step a (r .account)

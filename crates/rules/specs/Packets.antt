@@ -1,10 +1,11 @@
 -- Document 01, "Pool rules": what each call on packets answers and leaves.
 use Prim.Native.Nat.{ℕ, zero, suc, _+_, _-_, _*_, min}
 use mathlib.Core.Bool.{true, false}
-use mathlib.Core.List.{List, [], map}
+use mathlib.Core.List.{List, map}
 use lib.ListN.{length, getD, set, take, drop, replicate}
 use lib.Seq.{sets}
 use lib.Dec.{eqb, ltb, leb}
+use denote.Ref.{RefT, ptr, now}
 use Rattle.limits.specs.Limits.{SENDS, HEADROOM}
 use Rattle.laws.specs.Test.{pick}
 use Rattle.laws.specs.Occurs.{occurs, upFrom}
@@ -169,16 +170,32 @@ cloneCall a h memory =
     })
     (λ why. record { answer = record { verdict = Refused why; handle = noHandle; account = a }; memory = memory })
 
+-- a lent slice as a caller sees it: where it lies, and its bytes
+pub record Lent : Type 0 where
+  pub place : ℕ × ℕ
+  pub bytes : List ℕ
+
+abbrev pub lent : RefT (List ℕ) → Lent
+lent r = record { place = ptr r; bytes = now r }
+
+-- a part of it: so many bytes from a place on, where they lie
+abbrev pub within : ℕ → ℕ → Lent → Lent
+within at len m = record { place = (m .place .0, at + m .place .1); bytes = part at len (m .bytes) }
+
+-- the empty part at the start of packet memory
+abbrev pub noPart : Lent → Lent
+noPart m = within 0 0 m
+
 -- a packet's view is its own part; refused, it is the empty part
-unfoldable pub viewCall : Account → Handle → List ℕ → List ℕ
-viewCall a h memory =
-    onVerdict (viewVerdict a h (length memory))
-    (part (placeOf (a .size) (h .id) (h .offset)) (h .length) memory)
-    (λ why. [])
+unfoldable pub viewCall : Account → Handle → Lent → Lent
+viewCall a h m =
+    onVerdict (viewVerdict a h (length (m .bytes)))
+    (within (placeOf (a .size) (h .id) (h .offset)) (h .length) m)
+    (λ why. noPart m)
 
 -- the headroom is the part just before the packet; refused, it is the empty part
-unfoldable pub headroomCall : Account → Handle → ℕ → List ℕ → List ℕ
-headroomCall a h asked memory =
-    onVerdict (headroomVerdict a h asked (length memory))
-    (part (placeOf (a .size) (h .id) (h .offset) - asked) asked memory)
-    (λ why. [])
+unfoldable pub headroomCall : Account → Handle → ℕ → Lent → Lent
+headroomCall a h asked m =
+    onVerdict (headroomVerdict a h asked (length (m .bytes)))
+    (within (placeOf (a .size) (h .id) (h .offset) - asked) asked m)
+    (λ why. noPart m)
