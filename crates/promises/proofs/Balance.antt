@@ -214,7 +214,7 @@ module _ (pool entries size receives sends x : ℕ) (numbers : InRange entries s
       )
       (omega arith)
 
-fresh-opened : (pool entries size receives sends : ℕ) → freshVerdict entries size receives sends ≡ Done
+pub fresh-opened : (pool entries size receives sends : ℕ) → freshVerdict entries size receives sends ≡ Done
     → freshCall pool entries size receives sends .account ≡ opened pool entries (sizeGiven size) receives sends
 unfolding freshCall
 fresh-opened pool entries size receives sends e = rw e

@@ -3,7 +3,6 @@
 use Prim.Native.Nat.{ℕ, zero, suc, _+_, _-_, _≤_, _<_}
 use mathlib.Core.Path.{_≡_, refl, ap, _∙_}
 use mathlib.Core.Bool.{Bool, true, false}
-use mathlib.Core.List.{List}
 use lib.ListN.{length}
 use lib.Dec.{eqb, ltb}
 use native.Mathlib.Decide.{ℕ-discrete, decLt}
@@ -15,25 +14,19 @@ use Rattle.laws.specs.Occurs.{ind, occurs, sumTo}
 use Rattle.laws.proofs.Occurs.{ind-le}
 use Rattle.laws.proofs.Sum.{sum-same}
 use Rattle.pool.specs.Hands.{HAND-FREE, HAND-RECEIVE, HAND-SEND}
-use Rattle.pool.specs.declared.Handle.{Handle}
 use Rattle.rules.specs.declared.Account.{Account}
-use Rattle.rules.specs.declared.Kept.{Kept}
-use Rattle.rules.specs.declared.Taken.{Taken}
 use Rattle.rules.specs.declared.Verdict.the-variants.{Done}
-use Rattle.rules.specs.Handles.{Handles}
 use Rattle.rules.specs.Account.{handOf, freeList, receiveList, pending, sendList, held, opened}
 use Rattle.rules.specs.Sound.{Sound}
-use Rattle.rules.specs.Refusals.{freshVerdict, takeVerdict, batchVerdict, handleVerdict, cloneVerdict, startVerdict, receiveVerdict, sendVerdict}
-use Rattle.rules.specs.Packets.{Batched, Cloned, freshCall, taken, takeCall, batchCall, released, releaseCall, cloneCall}
-use Rattle.rules.specs.Receive.{AfterStart, AfterReceive, startCall, receiveCall}
-use Rattle.rules.specs.Send.{AfterSend, sendCall}
-use Rattle.rules.proofs.Verdicts.{verdict-holds}
+use Rattle.rules.specs.Refusals.{freshVerdict}
+use Rattle.rules.specs.Packets.{freshCall}
 use Rattle.rules.proofs.Lists.{list-free, list-receive, list-send, length-around}
-use Rattle.promises.specs.History.{Step, History}
+use Rattle.promises.specs.History.{History}
 use Rattle.promises.specs.History as h
 use Rattle.promises.specs.Ledger.{given, returned, buffers}
 use Rattle.promises.proofs.Always.{fresh-passed, always-whole}
 use Rattle.promises.proofs.Balance.{balance}
+use Rattle.promises.proofs.Quiet.{step-numbers}
 
 -- of n hands from HAND-SEND on, a number is one at most, and that only if it is below their end
 few-hands : (hand n : ℕ) → sumTo n (λ q. ind (eqb hand (HAND-SEND + q))) ≤ ind (ltb hand (HAND-SEND + n))
@@ -87,60 +80,16 @@ module _ {a : Account} (s : Sound a) (x : ℕ) (below : x < a .entries) where
 
 -- ---- over every history
 
--- a history's account has as many entries as its fresh account was given
-module _ (a : Account) where
-  take-entries : (len : ℕ) → takeCall a len .account .entries ≡ a .entries
-  unfolding takeCall taken
-  take-entries len = verdict-holds (λ (r : Taken). r .account .entries ≡ a .entries) (takeVerdict a len) _ _ (λ e. refl) (λ why e. refl)
-
-  batch-entries : (n len : ℕ) (lists : Handles) → batchCall a n len lists .answer .account .entries ≡ a .entries
-  unfolding batchCall
-  batch-entries n len lists = verdict-holds (λ (r : Batched). r .answer .account .entries ≡ a .entries) (batchVerdict a n lists) _ _ (λ e. refl) (λ why e. refl)
-
-  release-entries : (h : Handle) → releaseCall a h .account .entries ≡ a .entries
-  unfolding releaseCall released
-  release-entries h = verdict-holds (λ (r : Kept). r .account .entries ≡ a .entries) (handleVerdict a h) _ _ (λ e. refl) (λ why e. refl)
-
-  clone-entries : (h : Handle) (memory : List ℕ) → cloneCall a h memory .answer .account .entries ≡ a .entries
-  unfolding cloneCall taken
-  clone-entries h memory = verdict-holds (λ (r : Cloned). r .answer .account .entries ≡ a .entries) (cloneVerdict a h (length memory)) _ _ (λ e. refl) (λ why e. refl)
-
-  start-entries : (q : ℕ) (ring addresses : List ℕ) → startCall a q ring addresses .answer .account .entries ≡ a .entries
-  unfolding startCall
-  start-entries q ring addresses = verdict-holds (λ (r : AfterStart). r .answer .account .entries ≡ a .entries) (startVerdict a q ring addresses) _ _ (λ e. refl) (λ why e. refl)
-
-  receive-entries : (q : ℕ) (ring addresses : List ℕ) (n : ℕ) (lists : Handles) → receiveCall a q ring addresses n lists .answer .account .entries ≡ a .entries
-  unfolding receiveCall
-  receive-entries q ring addresses n lists =
-      verdict-holds (λ (r : AfterReceive). r .answer .account .entries ≡ a .entries) (receiveVerdict a q ring addresses n lists) _ _ (λ e. refl) (λ why e. refl)
-
-  send-entries : (q : ℕ) (ring addresses : List ℕ) (lists : Handles) → sendCall a q ring addresses lists .answer .account .entries ≡ a .entries
-  unfolding sendCall
-  send-entries q ring addresses lists =
-      verdict-holds (λ (r : AfterSend). r .answer .account .entries ≡ a .entries) (sendVerdict a q ring addresses lists) _ _ (λ e. refl) (λ why e. refl)
-
-step-entries : {a b : Account} → Step a b → b .entries ≡ a .entries
-step-entries {a} (h.counts r e) = refl
-step-entries {a} (h.take len r e) = rw e (take-entries a len)
-step-entries {a} (h.batch n len lists left r e) = rw (ap (λ (o : Batched). o .answer) e) (batch-entries a n len lists)
-step-entries {a} (h.release handle r e) = rw e (release-entries a handle)
-step-entries {a} (h.truncate handle len r e) = refl
-step-entries {a} (h.clone handle memory left r e) = rw (ap (λ (o : Cloned). o .answer) e) (clone-entries a handle memory)
-step-entries {a} (h.view handle memory part e) = refl
-step-entries {a} (h.headroom handle asked memory part e) = refl
-step-entries {a} (h.start q ring addresses left r e) = rw (ap (λ (o : AfterStart). o .answer) e) (start-entries a q ring addresses)
-step-entries {a} (h.receive q ring addresses n lists left filled r e) = rw (ap (λ (o : AfterReceive). o .answer) e) (receive-entries a q ring addresses n lists)
-step-entries {a} (h.send q ring addresses lists left r e) = rw (ap (λ (o : AfterSend). o .answer) e) (send-entries a q ring addresses lists)
-
 fresh-entries : (pool entries size receives sends : ℕ) → freshVerdict entries size receives sends ≡ Done → freshCall pool entries size receives sends .account .entries ≡ entries
 unfolding freshCall opened
 fresh-entries pool entries size receives sends e = rw e
 
+-- a history's account has as many entries as its fresh account was given
 pub same-entries : {a : Account} (t : History a) → a .entries ≡ buffers t
 unfolding buffers
 same-entries (h.fresh pool entries size receives sends r e done) =
     rw e (fresh-entries pool entries size receives sends (fresh-passed pool entries size receives sends (rw e at done)))
-same-entries (h.call before t) = step-entries t ∙ same-entries before
+same-entries (h.call before t) = ap (λ o. o .0) (step-numbers t) ∙ same-entries before
 
 module _ {a : Account} (t : History a) where
   -- each buffer is in exactly one of four hands: once in the free stack, the receive ring or one send queue, or else with the application,
