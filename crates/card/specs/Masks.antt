@@ -16,7 +16,7 @@ bits first last = 2 ^ (last + 1) - 2 ^ first
 abbrev pub placed : ℕ → ℕ → ℕ
 placed x first = x * 2 ^ first
 
--- EIMC, EICR: every cause
+-- EIMC: every cause
 abbrev pub IRQ-ALL : ℕ
 IRQ-ALL = bits 0 31
 

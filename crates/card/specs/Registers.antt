@@ -78,7 +78,7 @@ EIMC = 2
 abbrev pub EIAC : ℕ
 EIAC = 3
 
--- throttle; vectors 0 to 23 stand here
+-- throttle; vectors 0 to 23 stand here, and no others are used
 abbrev pub EITR : ℕ
 EITR = 4
 
@@ -112,7 +112,7 @@ EEC = 9
 abbrev pub FCTRL : ℕ
 FCTRL = 10
 
--- MAC address, low; the Rust's alias, the datasheet has 0xA200
+-- MAC address, low; the Rust's alias, the datasheet has 0xA200. Only address 0 is used
 abbrev pub RAL : ℕ
 RAL = 11
 

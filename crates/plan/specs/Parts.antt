@@ -120,7 +120,7 @@ sendOffload =
     Change HLREG0 (Is 0) (Is HLREG0-SEND) ∷
     []
 
--- 4.6.11.3.4: the first packet buffer has it all
+-- 4.6.11.3.4: 40 KB to the first packet buffer, none to the others
 abbrev pub sendBuffers : List Template
 sendBuffers =
     Write TXPBSIZE (FirstOnly TXPBSIZE-40KB) ∷
