@@ -6,3 +6,7 @@ pub mod Never
 pub mod Refused
 pub mod Around
 pub mod Queues
+pub mod Done
+pub mod Written
+pub mod Examples
+pub mod Versions
