@@ -1,0 +1,2 @@
+pub mod Rates
+pub mod Laws
