@@ -56,6 +56,10 @@ FEWEST-RATES = 2
 abbrev pub MOST-RATES : ℕ
 MOST-RATES = 64
 
+-- the receive calls to one look at the clock
+abbrev pub CLOCK-CALLS : ℕ
+CLOCK-CALLS = 4096
+
 -- all of them, in the order of src/lib.rt
 abbrev pub limits : List ℕ
 limits =
@@ -73,4 +77,5 @@ limits =
     ∷ TRIES
     ∷ FEWEST-RATES
     ∷ MOST-RATES
+    ∷ CLOCK-CALLS
     ∷ []

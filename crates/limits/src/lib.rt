@@ -38,8 +38,11 @@ pub const FEWEST_RATES: usize = 2;
 
 pub const MOST_RATES: usize = 64;
 
+// The receive calls to one look at the clock.
+pub const CLOCK_CALLS: usize = 4096;
+
 // Every limit, in the order above: the constants are the numbers of specs/.
-fn all() -> [usize; 14]
+fn all() -> [usize; 15]
     ensures { λ r. ⌜ r ≡ limits ⌝ }
 {
     [
@@ -57,5 +60,6 @@ fn all() -> [usize; 14]
         TRIES,
         FEWEST_RATES,
         MOST_RATES,
+        CLOCK_CALLS,
     ]
 }

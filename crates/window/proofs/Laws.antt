@@ -12,14 +12,14 @@ use borrow.Author.Tests.{ltb-true, leb-true, eqb-true, not-false, lt-ltb, le-leb
 use lib.ListN.{length, set, take, drop, length-set}
 use lib.Seq.{take-suc-set}
 use lib.Dec.{eqb, ltb, leb}
-use Rattle.limits.specs.Limits.{FEWEST-RATES, MOST-RATES}
+use Rattle.limits.specs.Limits.{FEWEST-RATES, MOST-RATES, CLOCK-CALLS}
 use Rattle.laws.specs.Test.{pick, both, either}
 use Rattle.laws.proofs.Test.{false-not-true, both-left, both-right, either-true}
 use Rattle.window.specs.declared.Window.{Window}
 use Rattle.window.specs.declared.Opened.{Opened}
 use Rattle.window.specs.declared.Ticked.{Ticked}
 use Rattle.window.specs.declared.Rated.{Rated}
-use Rattle.window.specs.Window.{CALLS, held, total, inRange, sound, Sound, opened, newCall, tickCall, isFull, withRate, decidedOn, ratedCall}
+use Rattle.window.specs.Window.{held, total, inRange, sound, Sound, opened, newCall, tickCall, isFull, withRate, decidedOn, ratedCall}
 use Rattle.window.proofs.Rates.{total-none, total-last, total-oldest, drop-later, slid-held, slid-length}
 
 -- what holds of both holds of what is picked
@@ -41,17 +41,17 @@ sound-means w e =
       some = ranged .0;
       few = ranged .1;
       room = ltb-true (w .count) (w .range) (both-left (ltb (w .count) (w .range)) _ rest);
-      early = ltb-true (w .calls) CALLS (both-left (ltb (w .calls) CALLS) _ last);
-      adds-up = eqb-true (w .sum) (total (held w)) (both-right (ltb (w .calls) CALLS) _ last);
+      early = ltb-true (w .calls) CLOCK-CALLS (both-left (ltb (w .calls) CLOCK-CALLS) _ last);
+      adds-up = eqb-true (w .sum) (total (held w)) (both-right (ltb (w .calls) CLOCK-CALLS) _ last);
     }
   where
     ranged : (FEWEST-RATES ≤ w .range) × (w .range ≤ MOST-RATES)
     ranged = range-means (w .range) (both-left (inRange (w .range)) _ e)
 
-    rest : both (ltb (w .count) (w .range)) (both (ltb (w .calls) CALLS) (eqb (w .sum) (total (held w)))) ≡ true
+    rest : both (ltb (w .count) (w .range)) (both (ltb (w .calls) CLOCK-CALLS) (eqb (w .sum) (total (held w)))) ≡ true
     rest = both-right (inRange (w .range)) _ e
 
-    last : both (ltb (w .calls) CALLS) (eqb (w .sum) (total (held w))) ≡ true
+    last : both (ltb (w .calls) CLOCK-CALLS) (eqb (w .sum) (total (held w))) ≡ true
     last = both-right (ltb (w .count) (w .range)) _ rest
 
 pub means-sound : (w : Window) → Sound w → sound w ≡ true
@@ -78,11 +78,11 @@ module _ (w : Window) (e : sound w ≡ true) where
       let s = sound-means w e in
       rw e (means-sound _ (record { some = s .some; few = s .few; room = s .room; early = omega arith; adds-up = s .adds-up }))
 
-  counted-on : tickCall w .window .calls ≡ (w .calls + 1) % CALLS
+  counted-on : tickCall w .window .calls ≡ (w .calls + 1) % CLOCK-CALLS
   unfolding tickCall
   counted-on = rw e
 
-  counted-looks : tickCall w .looks ≡ eqb (w .calls + 1) CALLS
+  counted-looks : tickCall w .looks ≡ eqb (w .calls + 1) CLOCK-CALLS
   unfolding tickCall
   counted-looks = rw e
 
@@ -167,19 +167,19 @@ ticked (suc k) w = tickCall (ticked k w) .window
 
 module _ (w : Window) (e : sound w ≡ true) (none : w .calls ≡ 0) where
   -- it is sound, and its counter is what is left of k
-  after-ticks : (k : ℕ) → (sound (ticked k w) ≡ true) × (ticked k w .calls ≡ k % CALLS)
+  after-ticks : (k : ℕ) → (sound (ticked k w) ≡ true) × (ticked k w .calls ≡ k % CLOCK-CALLS)
   after-ticks zero = (e, none)
   after-ticks (suc k) =
       let (good, calls) = after-ticks k in
       (counted-sound (ticked k w) good, counted-on (ticked k w) good ∙ omega arith)
 
   -- the k-th call looks at the clock exactly if 4,096 divides k
-  pub tick-each : (k : ℕ) → 0 < k → (tickCall (ticked (k - 1) w) .looks ≡ true) ↔ (k % CALLS ≡ 0)
+  pub tick-each : (k : ℕ) → 0 < k → (tickCall (ticked (k - 1) w) .looks ≡ true) ↔ (k % CLOCK-CALLS ≡ 0)
   tick-each k some =
       let (good, calls) = after-ticks (k - 1) in
       let looks = counted-looks (ticked (k - 1) w) good in (
-        λ e. omega (arith, eqb-true (ticked (k - 1) w .calls + 1) CALLS (sym looks ∙ e)),
-        λ z. looks ∙ eq-eqb (ticked (k - 1) w .calls + 1) CALLS (omega arith),
+        λ e. omega (arith, eqb-true (ticked (k - 1) w .calls + 1) CLOCK-CALLS (sym looks ∙ e)),
+        λ z. looks ∙ eq-eqb (ticked (k - 1) w .calls + 1) CLOCK-CALLS (omega arith),
       )
 
 -- ---- a decision

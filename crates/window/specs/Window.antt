@@ -5,7 +5,7 @@ use mathlib.Core.Bool.{Bool, true, false, not}
 use mathlib.Core.List.{List, [], _∷_, _++_}
 use lib.ListN.{length, getD, set, take, drop, replicate}
 use lib.Dec.{eqb, ltb, leb}
-use Rattle.limits.specs.Limits.{FEWEST-RATES, MOST-RATES}
+use Rattle.limits.specs.Limits.{FEWEST-RATES, MOST-RATES, CLOCK-CALLS}
 use Rattle.laws.specs.Test.{pick, both, either}
 use Rattle.window.specs.declared.Window.{Window}
 use Rattle.window.specs.declared.Opened.{Opened}
@@ -18,10 +18,6 @@ UNSOUND = 1
 
 abbrev pub OUT-OF-RANGE : ℕ
 OUT-OF-RANGE = 9
-
--- the clock is looked at on each call of so many
-abbrev pub CALLS : ℕ
-CALLS = 4096
 
 -- ---- what a window holds
 
@@ -45,14 +41,14 @@ unfoldable pub sound : Window → Bool
 sound w =
     both (inRange (w .range))
     (both (ltb (w .count) (w .range))
-    (both (ltb (w .calls) CALLS) (eqb (w .sum) (total (held w)))))
+    (both (ltb (w .calls) CLOCK-CALLS) (eqb (w .sum) (total (held w)))))
 
 -- the same as facts
 pub record Sound (w : Window) : Type 0 where
   pub some : FEWEST-RATES ≤ w .range
   pub few : w .range ≤ MOST-RATES
   pub room : w .count < w .range
-  pub early : w .calls < CALLS
+  pub early : w .calls < CLOCK-CALLS
   pub adds-up : w .sum ≡ total (held w)
 
 -- ---- set-up
@@ -100,7 +96,7 @@ withCalls w calls =
 unfoldable pub tickCall : Window → Ticked
 tickCall w =
     pick (sound w)
-    (record { number = 0; looks = eqb (w .calls + 1) CALLS; window = withCalls w ((w .calls + 1) % CALLS) })
+    (record { number = 0; looks = eqb (w .calls + 1) CLOCK-CALLS; window = withCalls w ((w .calls + 1) % CLOCK-CALLS) })
     (record { number = UNSOUND; looks = false; window = w })
 
 -- ---- a rate

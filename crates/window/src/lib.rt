@@ -7,6 +7,7 @@ ghost use Prim.Native.Nat.{_+_, _*_, _^_, _≤_, _<_};
 ghost use lib.ListN.{take};
 ghost use Rattle.limits.specs.Limits.{FEWEST-RATES, MOST-RATES};
 ghost use Rattle.window.specs.Window.{total, inRange, sound, Sound, opened, newCall, tickCall, slid, withRate, ratedCall};
+use limits::CLOCK_CALLS;
 use limits::FEWEST_RATES;
 use limits::MOST_RATES;
 
@@ -14,9 +15,6 @@ use limits::MOST_RATES;
 pub const UNSOUND: u32 = 1;
 
 pub const OUT_OF_RANGE: u32 = 9;
-
-// The clock is looked at on each call of so many.
-pub const CALLS: usize = 4096;
 
 // R, the threshold and the interval in nanoseconds as they were set; whether interrupts are on; the receive calls since the clock was last
 // looked at; the sum of the rates, their count, and the rates themselves, the oldest first.
@@ -121,7 +119,7 @@ fn passes(window: Window) -> bool
     if range <= count {
         return false;
     }
-    if CALLS <= window.calls {
+    if CLOCK_CALLS <= window.calls {
         return false;
     }
     let rates = window.rates;
@@ -161,7 +159,7 @@ impl Window {
             };
         }
         let calls = self.calls + 1;
-        if calls == CALLS {
+        if calls == CLOCK_CALLS {
             self.calls = 0;
             return Ticked {
                 number: 0,
