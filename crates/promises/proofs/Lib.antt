@@ -10,3 +10,5 @@ pub mod Done
 pub mod Written
 pub mod Examples
 pub mod Versions
+pub mod Unique
+pub mod Promises

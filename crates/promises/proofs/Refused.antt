@@ -1,13 +1,18 @@
 -- Demand 1: a refused call changes nothing. Where a call's verdict is a refusal, account, rings, lists and packet memory are as they were
 -- given, on every account, sound or forged.
-use Prim.Native.Nat.{ℕ}
-use mathlib.Core.Path.{_≡_}
+use Prim.Native.Nat.{ℕ, _≤_}
+use mathlib.Core.Path.{_≡_, refl}
+use mathlib.Core.Logic.{_⊎_, inl, inr}
 use mathlib.Core.List.{List}
 use lib.ListN.{length}
+use native.Mathlib.Omega.{arith}
 use Rattle.pool.specs.declared.Handle.{Handle}
 use Rattle.rules.specs.declared.Account.{Account}
 use Rattle.rules.specs.declared.Refusal.{Refusal}
-use Rattle.rules.specs.declared.Verdict.the-variants.{Refused}
+use Rattle.rules.specs.declared.Refusal.the-variants.{Unsound, WrongSize, NoQueue, BadHandle, TooLarge, NoneFree, NoHeadroom, NotNow, OutOfRange}
+use Rattle.rules.specs.declared.Verdict.{Verdict}
+use Rattle.rules.specs.declared.Verdict.the-variants.{Done, Refused}
+use Rattle.rules.specs.Numbers.{refusalNumber, number}
 use Rattle.rules.specs.declared.Ended.the-variants as ended
 use Rattle.rules.specs.declared.Tail.the-variants.{Unwritten}
 use Rattle.rules.specs.Handles.{Handles, noHandle}
@@ -15,6 +20,22 @@ use Rattle.rules.specs.Refusals.{takeVerdict, batchVerdict, handleVerdict, view
 use Rattle.rules.specs.Packets.{takeCall, batchCall, releaseCall, truncateCall, cloneCall, Lent, noPart, viewCall, headroomCall}
 use Rattle.rules.specs.Receive.{startCall, receiveCall}
 use Rattle.rules.specs.Send.{sendCall}
+
+-- every answer is done or a number of the table
+of-table : (why : Refusal) → (1 ≤ refusalNumber why) × (refusalNumber why ≤ 9)
+of-table Unsound = (omega arith, omega arith)
+of-table WrongSize = (omega arith, omega arith)
+of-table NoQueue = (omega arith, omega arith)
+of-table (BadHandle index) = (omega arith, omega arith)
+of-table TooLarge = (omega arith, omega arith)
+of-table NoneFree = (omega arith, omega arith)
+of-table NoHeadroom = (omega arith, omega arith)
+of-table NotNow = (omega arith, omega arith)
+of-table OutOfRange = (omega arith, omega arith)
+
+pub answer-known : (v : Verdict) → (v ≡ Done) ⊎ ((1 ≤ number v) × (number v ≤ 9))
+answer-known Done = inl refl
+answer-known (Refused why) = inr (of-table why)
 
 module _ (a : Account) (why : Refusal) where
   pub take-refused : (len : ℕ) → takeVerdict a len ≡ Refused why → takeCall a len ≡ record { verdict = Refused why; handle = noHandle; account = a }

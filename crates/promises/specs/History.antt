@@ -4,6 +4,7 @@
 use Prim.Native.Nat.{ℕ}
 use mathlib.Core.Path.{_≡_}
 use mathlib.Core.List.{List}
+use lib.ListN.{length}
 use Rattle.pool.specs.declared.Handle.{Handle}
 use Rattle.rules.specs.declared.Account.{Account}
 use Rattle.rules.specs.declared.Batch.{Batch}
@@ -14,8 +15,11 @@ use Rattle.rules.specs.declared.Sent.{Sent}
 use Rattle.rules.specs.declared.Started.{Started}
 use Rattle.rules.specs.declared.Taken.{Taken}
 use Rattle.rules.specs.declared.Truncated.{Truncated}
+use Rattle.rules.specs.declared.Verdict.{Verdict}
 use Rattle.rules.specs.declared.Verdict.the-variants.{Done}
+use Rattle.rules.specs.Numbers.{verdictOf}
 use Rattle.rules.specs.Handles.{Handles}
+use Rattle.rules.specs.Refusals.{viewVerdict, headroomVerdict}
 use Rattle.rules.specs.Packets.{freshCall, countsCall, takeCall, batched, batchCall, releaseCall, truncateCall, clonedAs, cloneCall, Lent, viewCall, headroomCall}
 use Rattle.rules.specs.Receive.{startedAs, startCall, receivedAs, receiveCall}
 use Rattle.rules.specs.Send.{sentAs, sendCall}
@@ -38,3 +42,17 @@ pub data Step (a : Account) : Account → Type 0 where
 pub data History : Account → Type 0 where
   fresh : (pool entries size receives sends : ℕ) (r : Kept) → r ≡ freshCall pool entries size receives sends → r .verdict ≡ Done → History (r .account)
   call : {a b : Account} → History a → Step a b → History b
+
+-- what a call's answer says of itself; a view's and a headroom's number comes from the call beside it
+abbrev pub verdictBy : {a b : Account} → Step a b → Verdict
+verdictBy (counts r e) = r .verdict
+verdictBy (take len r e) = r .verdict
+verdictBy (batch n len lists after r e) = r .verdict
+verdictBy (release h r e) = r .verdict
+verdictBy (truncate h len r e) = r .verdict
+verdictBy (clone h memory after r e) = r .verdict
+verdictBy {a} (view h memory part e) = viewVerdict a h (length (memory .bytes))
+verdictBy {a} (headroom h asked memory part e) = headroomVerdict a h asked (length (memory .bytes))
+verdictBy (start q ring addresses after r e) = r .verdict
+verdictBy (receive q ring addresses n lists after filled r e) = verdictOf (r .ended)
+verdictBy (send q ring addresses lists after r e) = r .verdict
