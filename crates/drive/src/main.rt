@@ -2,7 +2,11 @@
 // document 01 says they are.
 ghost use Prim.Native.Nat.{_≤_};
 ghost use Rattle.limits.specs.Limits.{SLOTS};
-use libc::STDOUT_FILENO;
+use answers::say;
+use answers::show;
+use answers::show_count;
+use answers::show_stop;
+use answers::show_tail;
 use limits::SLOT_BYTES;
 use limits::SLOTS;
 use pool::Handle;
@@ -14,22 +18,11 @@ use rules::Kept;
 use rules::Received;
 use rules::Sent;
 use rules::Started;
-use rules::Stop;
-use rules::Tail;
 use rules::Taken;
 use rules::Truncated;
 use rules::Verdict;
 
 // ---- printing
-
-fn say(word: &[u8]) {
-    io::write_all(STDOUT_FILENO, word);
-}
-
-fn show(n: u64) {
-    io::write_all(STDOUT_FILENO, b" ");
-    io::print_decimal(STDOUT_FILENO, n);
-}
 
 fn tell(verdict: Verdict) {
     show(calls::number(verdict));
@@ -48,7 +41,7 @@ fn taken(answer: Taken) {
 fn batched(answer: Batch) {
     let verdict = answer.verdict;
     tell(verdict);
-    show(wide(answer.count));
+    show_count(answer.count);
 }
 
 fn truncated(answer: Truncated) {
@@ -61,16 +54,12 @@ fn truncated(answer: Truncated) {
 fn counted(answer: Counts) {
     let verdict = answer.verdict;
     tell(verdict);
-    show(wide(answer.free));
-    show(wide(answer.receive));
-    show(wide(answer.out));
+    show_count(answer.free);
+    show_count(answer.receive);
+    show_count(answer.out);
 }
 
 fn narrow(n: u16) -> u64 {
-    n as u64
-}
-
-fn wide(n: usize) -> u64 {
     n as u64
 }
 
@@ -233,11 +222,11 @@ fn view() {
     say(b"view");
     let memory = [9u8; 256];
     tell(calls::view_verdict(one_out(), handle(7, 3, 32, 8), 256));
-    show(wide(calls::view(one_out(), handle(7, 3, 32, 8), &memory).len()));
+    show_count(calls::view(one_out(), handle(7, 3, 32, 8), &memory).len());
     tell(calls::view_verdict(forged(), handle(7, 3, 32, 8), 256));
     tell(calls::view_verdict(one_out(), handle(7, 3, 32, 8), 255));
     tell(calls::view_verdict(one_out(), handle(7, 2, 32, 8), 256));
-    show(wide(calls::view(one_out(), handle(7, 2, 32, 8), &memory).len()));
+    show_count(calls::view(one_out(), handle(7, 2, 32, 8), &memory).len());
     say(b"\n");
 }
 
@@ -245,14 +234,14 @@ fn headroom() {
     say(b"headroom");
     let mut memory = [9u8; 256];
     tell(calls::headroom_verdict(one_out(), handle(7, 3, 32, 8), 14, 256));
-    show(wide(calls::headroom(one_out(), handle(7, 3, 32, 8), 14, &mut memory).len()));
+    show_count(calls::headroom(one_out(), handle(7, 3, 32, 8), 14, &mut memory).len());
     tell(calls::headroom_verdict(forged(), handle(7, 3, 32, 8), 14, 256));
     tell(calls::headroom_verdict(one_out(), handle(7, 3, 32, 8), 14, 64));
     tell(calls::headroom_verdict(one_out(), handle(7, 2, 32, 8), 14, 256));
     tell(calls::headroom_verdict(one_out(), handle(7, 3, 32, 8), 33, 256));
     tell(calls::headroom_verdict(one_out(), handle(7, 3, 0, 8), 14, 256));
     let mut again = [9u8; 256];
-    show(wide(calls::headroom(one_out(), handle(7, 3, 0, 8), 14, &mut again).len()));
+    show_count(calls::headroom(one_out(), handle(7, 3, 0, 8), 14, &mut again).len());
     say(b"\n");
 }
 
@@ -261,8 +250,8 @@ fn headroom() {
 fn started_answer(answer: Started) -> Account {
     let verdict = answer.verdict;
     tell(verdict);
-    let end = answer.tail;
-    tail(end);
+    let tail = answer.tail;
+    show_tail(tail);
     answer.account
 }
 
@@ -271,38 +260,21 @@ fn received_answer(answer: Received) -> Account {
     let ended = answer.ended;
     match ended {
         Ended::Refused(why) => show(calls::refusal_number(why)),
-        Ended::Stopped(stop) => reason(stop),
+        Ended::Stopped(stop) => show_stop(stop),
     }
-    show(wide(answer.count));
-    let end = answer.tail;
-    tail(end);
+    show_count(answer.count);
+    let tail = answer.tail;
+    show_tail(tail);
     answer.account
 }
 
 fn sent_answer(answer: Sent) -> Account {
     let verdict = answer.verdict;
     tell(verdict);
-    show(wide(answer.count));
-    let end = answer.tail;
-    tail(end);
+    show_count(answer.count);
+    let tail = answer.tail;
+    show_tail(tail);
     answer.account
-}
-
-fn tail(end: Tail) {
-    match end {
-        Tail::Unwritten => say(b" -"),
-        Tail::Written(slot) => show(wide(slot)),
-    }
-}
-
-fn reason(stop: Stop) {
-    match stop {
-        Stop::Asked => say(b" asked"),
-        Stop::NotDone => say(b" not-done"),
-        Stop::Split => say(b" split"),
-        Stop::TooLong => say(b" too-long"),
-        Stop::NoBuffer => say(b" no-buffer"),
-    }
 }
 
 // An account of 520 entries whose receive ring has started on a ring that nobody looks at again.
