@@ -2,7 +2,11 @@
 // document 01 says they are.
 ghost use Prim.Native.Nat.{_≤_};
 ghost use Rattle.limits.specs.Limits.{SLOTS};
-use libc::STDOUT_FILENO;
+use answers::say;
+use answers::show;
+use answers::show_count;
+use answers::show_stop;
+use answers::show_tail;
 use limits::SLOT_BYTES;
 use limits::SLOTS;
 use pool::Handle;
@@ -14,22 +18,11 @@ use rules::Kept;
 use rules::Received;
 use rules::Sent;
 use rules::Started;
-use rules::Stop;
-use rules::Tail;
 use rules::Taken;
 use rules::Truncated;
 use rules::Verdict;
 
 // ---- printing
-
-fn say(word: &[u8]) {
-    io::write_all(STDOUT_FILENO, word);
-}
-
-fn show(n: u64) {
-    io::write_all(STDOUT_FILENO, b" ");
-    io::print_decimal(STDOUT_FILENO, n);
-}
 
 fn tell(verdict: Verdict) {
     show(calls::number(verdict));
@@ -48,7 +41,7 @@ fn taken(answer: Taken) {
 fn batched(answer: Batch) {
     let verdict = answer.verdict;
     tell(verdict);
-    show(wide(answer.count));
+    show_count(answer.count);
 }
 
 fn truncated(answer: Truncated) {
@@ -61,16 +54,12 @@ fn truncated(answer: Truncated) {
 fn counted(answer: Counts) {
     let verdict = answer.verdict;
     tell(verdict);
-    show(wide(answer.free));
-    show(wide(answer.receive));
-    show(wide(answer.out));
+    show_count(answer.free);
+    show_count(answer.receive);
+    show_count(answer.out);
 }
 
 fn narrow(n: u16) -> u64 {
-    n as u64
-}
-
-fn wide(n: usize) -> u64 {
     n as u64
 }
 
@@ -214,45 +203,71 @@ fn counts() {
     say(b"\n");
 }
 
-// ---- packet memory
+// ---- packet memory: after each call a digest of every byte of it
+
+// Packet memory with marks where packet 3 and its headroom begin and end.
+fn marked() -> [u8; 256] {
+    let mut memory = [9u8; 256];
+    memory[210] = 1;
+    memory[223] = 2;
+    memory[224] = 3;
+    memory[231] = 4;
+    memory
+}
+
+fn digest(memory: &[u8]) {
+    show(trials::byte_digest(0, memory));
+}
+
+fn clone_in(memory: &mut [u8], account: Account, handle: Handle) {
+    taken(calls::clone(account, handle, memory));
+    digest(memory);
+}
 
 fn clone() {
     say(b"clone");
-    let mut memory = [9u8; 256];
-    taken(calls::clone(one_out(), handle(7, 3, 32, 8), &mut memory));
-    taken(calls::clone(forged(), handle(7, 3, 32, 8), &mut memory));
-    taken(calls::clone(account(3), handle(7, 3, 32, 8), &mut memory));
-    taken(calls::clone(one_out(), handle(7, 0, 32, 8), &mut memory));
-    taken(calls::clone(one_out(), handle(7, 3, 0, 33), &mut memory));
+    let mut memory = marked();
+    clone_in(&mut memory, one_out(), handle(7, 3, 32, 8));
+    clone_in(&mut memory, forged(), handle(7, 3, 32, 8));
+    clone_in(&mut memory, account(3), handle(7, 3, 32, 8));
+    clone_in(&mut memory, one_out(), handle(7, 0, 32, 8));
+    clone_in(&mut memory, one_out(), handle(7, 3, 0, 33));
     let mut small = [9u8; 64];
-    taken(calls::clone(empty(), handle(7, 0, 32, 8), &mut small));
+    clone_in(&mut small, empty(), handle(7, 0, 32, 8));
     say(b"\n");
+}
+
+fn view_in(memory: &[u8], account: Account, handle: Handle) {
+    tell(calls::view_verdict(account, handle, memory.len()));
+    digest(calls::view(account, handle, memory));
 }
 
 fn view() {
     say(b"view");
-    let memory = [9u8; 256];
-    tell(calls::view_verdict(one_out(), handle(7, 3, 32, 8), 256));
-    show(wide(calls::view(one_out(), handle(7, 3, 32, 8), &memory).len()));
-    tell(calls::view_verdict(forged(), handle(7, 3, 32, 8), 256));
-    tell(calls::view_verdict(one_out(), handle(7, 3, 32, 8), 255));
-    tell(calls::view_verdict(one_out(), handle(7, 2, 32, 8), 256));
-    show(wide(calls::view(one_out(), handle(7, 2, 32, 8), &memory).len()));
+    let memory = marked();
+    view_in(&memory, one_out(), handle(7, 3, 32, 8));
+    view_in(&memory, forged(), handle(7, 3, 32, 8));
+    view_in(&memory[..255], one_out(), handle(7, 3, 32, 8));
+    view_in(&memory, one_out(), handle(7, 2, 32, 8));
     say(b"\n");
+}
+
+fn headroom_in(memory: &mut [u8], account: Account, handle: Handle, asked: usize) {
+    tell(calls::headroom_verdict(account, handle, asked, memory.len()));
+    let part = calls::headroom(account, handle, asked, memory);
+    digest(part);
+    digest(memory);
 }
 
 fn headroom() {
     say(b"headroom");
-    let mut memory = [9u8; 256];
-    tell(calls::headroom_verdict(one_out(), handle(7, 3, 32, 8), 14, 256));
-    show(wide(calls::headroom(one_out(), handle(7, 3, 32, 8), 14, &mut memory).len()));
-    tell(calls::headroom_verdict(forged(), handle(7, 3, 32, 8), 14, 256));
-    tell(calls::headroom_verdict(one_out(), handle(7, 3, 32, 8), 14, 64));
-    tell(calls::headroom_verdict(one_out(), handle(7, 2, 32, 8), 14, 256));
-    tell(calls::headroom_verdict(one_out(), handle(7, 3, 32, 8), 33, 256));
-    tell(calls::headroom_verdict(one_out(), handle(7, 3, 0, 8), 14, 256));
-    let mut again = [9u8; 256];
-    show(wide(calls::headroom(one_out(), handle(7, 3, 0, 8), 14, &mut again).len()));
+    let mut memory = marked();
+    headroom_in(&mut memory, one_out(), handle(7, 3, 32, 8), 14);
+    headroom_in(&mut memory, forged(), handle(7, 3, 32, 8), 14);
+    headroom_in(&mut memory[..64], one_out(), handle(7, 3, 32, 8), 14);
+    headroom_in(&mut memory, one_out(), handle(7, 2, 32, 8), 14);
+    headroom_in(&mut memory, one_out(), handle(7, 3, 32, 8), 33);
+    headroom_in(&mut memory, one_out(), handle(7, 3, 0, 8), 14);
     say(b"\n");
 }
 
@@ -261,8 +276,8 @@ fn headroom() {
 fn started_answer(answer: Started) -> Account {
     let verdict = answer.verdict;
     tell(verdict);
-    let end = answer.tail;
-    tail(end);
+    let tail = answer.tail;
+    show_tail(tail);
     answer.account
 }
 
@@ -271,38 +286,21 @@ fn received_answer(answer: Received) -> Account {
     let ended = answer.ended;
     match ended {
         Ended::Refused(why) => show(calls::refusal_number(why)),
-        Ended::Stopped(stop) => reason(stop),
+        Ended::Stopped(stop) => show_stop(stop),
     }
-    show(wide(answer.count));
-    let end = answer.tail;
-    tail(end);
+    show_count(answer.count);
+    let tail = answer.tail;
+    show_tail(tail);
     answer.account
 }
 
 fn sent_answer(answer: Sent) -> Account {
     let verdict = answer.verdict;
     tell(verdict);
-    show(wide(answer.count));
-    let end = answer.tail;
-    tail(end);
+    show_count(answer.count);
+    let tail = answer.tail;
+    show_tail(tail);
     answer.account
-}
-
-fn tail(end: Tail) {
-    match end {
-        Tail::Unwritten => say(b" -"),
-        Tail::Written(slot) => show(wide(slot)),
-    }
-}
-
-fn reason(stop: Stop) {
-    match stop {
-        Stop::Asked => say(b" asked"),
-        Stop::NotDone => say(b" not-done"),
-        Stop::Split => say(b" split"),
-        Stop::TooLong => say(b" too-long"),
-        Stop::NoBuffer => say(b" no-buffer"),
-    }
 }
 
 // An account of 520 entries whose receive ring has started on a ring that nobody looks at again.

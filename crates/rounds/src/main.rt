@@ -1,16 +1,19 @@
-// Takes the rings round: cleaning at 31, 32, 63 and 64 pending, a full send ring and its wrap, receives across the end of the ring. After each
-// call it prints the answer and a digest of every byte of the ring and of the lists. The file `stdout` was made by a model of document 01.
-ghost use Prim.Native.Nat.{_≤_, _<_, _^_};
+// Takes the rings round: cleaning at 31, 32, 63 and 64 pending, and where the card is done with a part, a full send ring and its wrap,
+// receives across the end of the ring. After each call it prints the answer and a digest of every byte of the ring and of the lists. The
+// file `stdout` is made by tools/rounds_model.py.
+ghost use Prim.Native.Nat.{_≤_};
 ghost use Rattle.limits.specs.Limits.{SLOTS};
-use libc::STDOUT_FILENO;
+use answers::say;
+use answers::show;
+use answers::show_count;
+use answers::show_stop;
+use answers::show_tail;
 use limits::SLOT_BYTES;
 use limits::SLOTS;
 use rules::Account;
 use rules::Ended;
 use rules::Received;
 use rules::Sent;
-use rules::Stop;
-use rules::Tail;
 
 const ENTRIES: usize = 1100;
 
@@ -18,78 +21,20 @@ const LISTED: usize = 600;
 
 // ---- printing
 
-fn say(word: &[u8]) {
-    io::write_all(STDOUT_FILENO, word);
-}
-
-fn show(n: u64) {
-    io::write_all(STDOUT_FILENO, b" ");
-    io::print_decimal(STDOUT_FILENO, n);
-}
-
-fn wide(n: usize) -> u64 {
-    n as u64
-}
-
-fn byte(n: u8) -> u64
-    ensures { λ r. ⌜ r < 2 ^ 32 ⌝ }
-{
-    n as u64
-}
-
-fn half(n: u16) -> u64
-    ensures { λ r. ⌜ r < 2 ^ 32 ⌝ }
-{
-    n as u64
-}
-
-// One number more in a digest.
-fn mixed(digest: u64, n: u64) -> u64
-    requires { ⌜ (digest < 2 ^ 32) × (n < 2 ^ 32) ⌝ }
-    ensures { λ r. ⌜ r < 2 ^ 32 ⌝ }
-{
-    (digest * 31 + n + 1) % 0x1_0000_0000
-}
-
 // A digest of every byte of a ring.
 fn show_ring(ring: &[u8; SLOTS * SLOT_BYTES]) {
-    let mut digest = 0;
-    for i in 0..SLOTS * SLOT_BYTES {
-        digest = mixed(digest, byte(ring[i]));
-    }
-    show(digest);
+    show(trials::byte_digest(0, ring));
 }
 
 // A digest of every place of a list.
 fn show_list(list: &[u16; LISTED]) {
-    let mut digest = 0;
-    for i in 0..LISTED {
-        digest = mixed(digest, half(list[i]));
-    }
-    show(digest);
-}
-
-fn show_tail(tail: Tail) {
-    match tail {
-        Tail::Unwritten => say(b" -"),
-        Tail::Written(slot) => show(wide(slot)),
-    }
-}
-
-fn show_stop(stop: Stop) {
-    match stop {
-        Stop::Asked => say(b" asked"),
-        Stop::NotDone => say(b" not-done"),
-        Stop::Split => say(b" split"),
-        Stop::TooLong => say(b" too-long"),
-        Stop::NoBuffer => say(b" no-buffer"),
-    }
+    show(trials::half_digest(0, list));
 }
 
 fn show_sent(answer: Sent) -> Account {
     let verdict = answer.verdict;
     show(calls::number(verdict));
-    show(wide(answer.count));
+    show_count(answer.count);
     let tail = answer.tail;
     show_tail(tail);
     let account = answer.account;
@@ -103,7 +48,7 @@ fn show_received(answer: Received) -> Account {
         Ended::Refused(why) => show(calls::refusal_number(why)),
         Ended::Stopped(stop) => show_stop(stop),
     }
-    show(wide(answer.count));
+    show_count(answer.count);
     let tail = answer.tail;
     show_tail(tail);
     let account = answer.account;
@@ -113,11 +58,11 @@ fn show_received(answer: Received) -> Account {
 
 fn show_counts(account: Account) {
     let counts = calls::counts(account);
-    show(wide(counts.free));
-    show(wide(counts.receive));
+    show_count(counts.free);
+    show_count(counts.receive);
     let send = counts.send;
-    show(wide(send[0]));
-    show(wide(counts.out));
+    show_count(send[0]);
+    show_count(counts.out);
 }
 
 // ---- what is lent
@@ -130,11 +75,7 @@ fn fresh() -> Account {
 // An address for each entry, wrapping at 2^64 on the way.
 fn addresses() -> [u64; ENTRIES] {
     let mut list = [0u64; ENTRIES];
-    let mut next = 0xFFFF_FFFF_FFFF_0000;
-    for id in 0..ENTRIES {
-        list[id] = next;
-        next = std::num::wrapping_add_u64(next, 64);
-    }
+    trials::fill_addresses(0xFFFF_FFFF_FFFF_0000, &mut list);
     list
 }
 
@@ -214,14 +155,14 @@ fn send(account: Account, ring: &mut [u8; SLOTS * SLOT_BYTES], from: usize, to: 
     show_sent(answer)
 }
 
-// So many sent, all of them done, and an empty send.
-fn clean(n: usize)
-    requires { ⌜ n ≤ 600 ⌝ }
+// So many sent, the first slots done by the card, and an empty send.
+fn clean(name: &[u8], n: usize, slots: usize)
+    requires { ⌜ (n ≤ 600) × (slots ≤ SLOTS) ⌝ }
 {
-    say(b"clean");
+    say(name);
     let mut ring = [0u8; SLOTS * SLOT_BYTES];
     let first = send(taken(n), &mut ring, 0, n);
-    let mut done = sent_by_card(ring, SLOTS);
+    let mut done = sent_by_card(ring, slots);
     send(first, &mut done, 0, 0);
     say(b"\n");
 }
@@ -279,10 +220,13 @@ fn across() {
 }
 
 fn main() {
-    clean(31);
-    clean(32);
-    clean(63);
-    clean(64);
+    clean(b"clean", 31, SLOTS);
+    clean(b"clean", 32, SLOTS);
+    clean(b"clean", 63, SLOTS);
+    clean(b"clean", 64, SLOTS);
+    clean(b"31 done of 64", 64, 31);
+    clean(b"32 done of 64", 64, 32);
+    clean(b"63 done of 64", 64, 63);
     wrap();
     across();
 }

@@ -25,10 +25,10 @@ use Rattle.rules.proofs.Send.{give-clean, clean-holds}
 use Rattle.sends.specs.Lent.{Cleanable, Writable}
 
 -- a cleaning's index stays in the ring
-pub clean-place : (batch : ℕ) (sent : List ℕ) (q tx : ℕ) (ring : List ℕ) (turns : ℕ) (w : Cleaning) → w .clean < SLOTS
-    → cleanRule batch sent q tx ring turns w .clean < SLOTS
-clean-place batch sent q tx ring turns w below =
-    clean-holds batch sent q tx ring (λ v. v .clean < SLOTS) (λ v e p. rw (give-clean sent q batch v p) (omega arith)) turns w below
+pub clean-place : (batch : ℕ) (sent : List ℕ) (q tx : ℕ) (ring : List ℕ) (turns : ℕ) (w end : Cleaning)
+    → end ≡ cleanRule batch sent q tx ring turns w → w .clean < SLOTS → end .clean < SLOTS
+clean-place batch sent q tx ring turns w end e below =
+    rw e (clean-holds batch sent q tx ring (λ v. v .clean < SLOTS) (λ v e p. rw (give-clean sent q batch v p) (omega arith)) turns w below)
 
 -- fewer of a list can be written too
 pub writable-less : {n m q tx : ℕ} {addresses ring : List ℕ} {lists : Handles} → m ≤ n → Writable n q tx addresses ring lists → Writable m q tx addresses ring lists

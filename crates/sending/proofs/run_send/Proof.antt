@@ -1,7 +1,5 @@
 -- `sending::run_send` meets its contract: the answer is made of what cleaning and sending left. Assumes nothing.
-use mathlib.Core.Path.{ap}
 use native.Mathlib.Omega.{arith}
-use Rattle.rules.specs.Send.{Cleaning}
 use Rattle.sending.proofs.Laws.{clean-place, writable-less, run-outcome}
 use borrow.Author.Needs.{needs}
 use Rattle.sending.proofs.run_send.Statement.{statement}
@@ -28,7 +26,7 @@ sub-room c = search needs
 pending-requires : tie.Need-pending-requires
 pending-requires c κs = (
   c .before .before .before .before .before .before .before .before .before .before .before .before .before .before .before .before .before .pre .1 .index,
-  rw (ap (λ (w : Cleaning). w .clean) (c .clean2 .ensures)) (clean-place _ _ _ _ _ _ _ (c .before .before .before .before .before .before .before .before .before .before .before .before .before .before .before .before .before .pre .1 .givable .place)),
+  omega (arith, clean-place _ _ _ _ _ _ _ _ (c .clean2 .ensures) (c .before .before .before .before .before .before .before .before .before .before .before .before .before .before .before .before .before .pre .1 .givable .place), c .before .before .before .before .before .before .before .before .before .before .before .before .before .before .before .before .before .pre .1 .givable .place),
 )
 
 sub-room-2 : tie.Need-sub-room-2

@@ -1,21 +1,21 @@
--- `rounds::show_ring` is safe: every place that it reads or writes is there. Assumes nothing.
-use Prim.Native.Nat.{_-_, _^_, _≤_, _<_}
+-- `trials::byte_digest` is safe: every place that it reads or writes is there. Assumes nothing.
+use Prim.Native.Nat.{_-_, _≤_}
+use lib.ListN.{length}
 use borrow.Author.Needs.{needs}
-use Rattle.limits.specs.Limits.{RING-BYTES}
-use Rattle.rounds.proofs.show_ring.Statement.{statement}
-use Rattle.rounds.proofs.show_ring.Tie as tie
+use Rattle.trials.proofs.byte_digest.Statement.{statement}
+use Rattle.trials.proofs.byte_digest.Tie as tie
 
 abbrev Inv-loop : tie.InvT-loop
-Inv-loop ring digest₀ i₀ digest i = (i ≤ RING-BYTES) × (digest < 2 ^ 32)
+Inv-loop from list digest₀ i₀ i-end digest i = (i ≤ i-end) × (i-end ≤ length list)
 
 abbrev μ-loop : tie.MeasureT-loop
-μ-loop ring digest₀ i₀ digest i = RING-BYTES - i
+μ-loop from list digest₀ i₀ i-end digest i = i-end - i
 
 loop-holds : tie.Need-loop-holds Inv-loop μ-loop
 loop-holds c = search needs
 
-element-copy-out-byte : tie.Need-element-copy-out-byte Inv-loop μ-loop
-element-copy-out-byte c = search needs
+shared-slice-read-byte : tie.Need-shared-slice-read-byte Inv-loop μ-loop
+shared-slice-read-byte c = search needs
 
 byte-requires : tie.Need-byte-requires Inv-loop μ-loop
 byte-requires c κs = search needs
@@ -32,24 +32,20 @@ loop-less c = search needs
 loop-again : tie.Need-loop-again Inv-loop μ-loop
 loop-again c = search needs
 
-show-requires : tie.Need-show-requires Inv-loop μ-loop
-show-requires c κs = search needs
-
 returns : tie.Need-returns Inv-loop μ-loop
 returns c = search needs
 
-pub show-ring-spec : {M : Type 1} → statement M
-show-ring-spec =
+pub byte-digest-spec : {M : Type 1} → statement M
+byte-digest-spec =
     tie.close
     (tie.spec
     Inv-loop
     μ-loop
     loop-holds
-    element-copy-out-byte
+    shared-slice-read-byte
     byte-requires
     mixed-requires
     add-i
     loop-less
     loop-again
-    show-requires
     returns)

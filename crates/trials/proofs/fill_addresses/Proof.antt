@@ -1,16 +1,16 @@
--- `rounds::addresses` is safe: every place that it reads or writes is there. Assumes nothing.
+-- `trials::fill_addresses` is safe: every place that it reads or writes is there. Assumes nothing.
 use Prim.Native.Nat.{_-_, _≤_}
 use mathlib.Core.Path.{_≡_}
 use lib.ListN.{length}
 use borrow.Author.Needs.{needs}
-use Rattle.rounds.proofs.addresses.Statement.{statement}
-use Rattle.rounds.proofs.addresses.Tie as tie
+use Rattle.trials.proofs.fill_addresses.Statement.{statement}
+use Rattle.trials.proofs.fill_addresses.Tie as tie
 
 abbrev Inv-loop : tie.InvT-loop
-Inv-loop list₀ next₀ id₀ list next id = (id ≤ 1100) × (length list ≡ 1100)
+Inv-loop first list₀ next₀ id₀ id-end list next id = (id ≤ id-end) × (id-end ≤ length list) × (length list ≡ length list₀)
 
 abbrev μ-loop : tie.MeasureT-loop
-μ-loop list₀ next₀ id₀ list next id = 1100 - id
+μ-loop first list₀ next₀ id₀ id-end list next id = id-end - id
 
 loop-holds : tie.Need-loop-holds Inv-loop μ-loop
 loop-holds c = search needs
@@ -18,8 +18,8 @@ loop-holds c = search needs
 mul-list : tie.Need-mul-list Inv-loop μ-loop
 mul-list c = search needs
 
-array-write-list : tie.Need-array-write-list Inv-loop μ-loop
-array-write-list c = search needs
+slice-write-list : tie.Need-slice-write-list Inv-loop μ-loop
+slice-write-list c = search needs
 
 wrapping-add-u64-requires : tie.Need-wrapping-add-u64-requires Inv-loop μ-loop
 wrapping-add-u64-requires c κs = search needs
@@ -33,20 +33,24 @@ loop-less c = search needs
 loop-again : tie.Need-loop-again Inv-loop μ-loop
 loop-again c = search needs
 
+same-length : tie.Need-same-length Inv-loop μ-loop
+same-length c = search needs
+
 returns : tie.Need-returns Inv-loop μ-loop
 returns c = search needs
 
-pub addresses-spec : {M : Type 1} → statement M
-addresses-spec =
+pub fill-addresses-spec : {M : Type 1} → statement M
+fill-addresses-spec =
     tie.close
     (tie.spec
     Inv-loop
     μ-loop
     loop-holds
     mul-list
-    array-write-list
+    slice-write-list
     wrapping-add-u64-requires
     add-id
     loop-less
     loop-again
+    same-length
     returns)
