@@ -247,8 +247,9 @@ fn view() {
     let memory = marked();
     view_in(&memory, one_out(), handle(7, 3, 32, 8));
     view_in(&memory, forged(), handle(7, 3, 32, 8));
-    view_in(&memory[..255], one_out(), handle(7, 3, 32, 8));
     view_in(&memory, one_out(), handle(7, 2, 32, 8));
+    let short = [9u8; 255];
+    view_in(&short, one_out(), handle(7, 3, 32, 8));
     say(b"\n");
 }
 
@@ -264,7 +265,8 @@ fn headroom() {
     let mut memory = marked();
     headroom_in(&mut memory, one_out(), handle(7, 3, 32, 8), 14);
     headroom_in(&mut memory, forged(), handle(7, 3, 32, 8), 14);
-    headroom_in(&mut memory[..64], one_out(), handle(7, 3, 32, 8), 14);
+    let mut short = [9u8; 64];
+    headroom_in(&mut short, one_out(), handle(7, 3, 32, 8), 14);
     headroom_in(&mut memory, one_out(), handle(7, 2, 32, 8), 14);
     headroom_in(&mut memory, one_out(), handle(7, 3, 32, 8), 33);
     headroom_in(&mut memory, one_out(), handle(7, 3, 0, 8), 14);

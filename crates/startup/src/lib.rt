@@ -216,7 +216,7 @@ fn has_register(item: Item) -> bool
 // ---- the map
 
 // A register is in the map.
-fn in_map(map: u64, register: u32) -> bool
+pub fn in_map(map: u64, register: u32) -> bool
     ensures { λ r. ⌜ r ≡ inMap map register ⌝ }
 {
     if map < 4 {

@@ -1,0 +1,32 @@
+-- Document 01, "Registers": statistics, four sums wrapping at 2^64.
+use Prim.Native.Nat.{ℕ, _+_, _*_, _%_, _^_}
+use mathlib.Core.List.{List, [], _∷_}
+use lib.ListN.{getD}
+use Rattle.card.specs.Registers.{GPRC, GPTC, GORCL, GORCH, GOTCL, GOTCH}
+use Rattle.service.specs.declared.Stats.{Stats}
+
+-- the counters in the order in which they are read
+abbrev pub counters : List ℕ
+counters = GPRC ∷ GPTC ∷ GORCL ∷ GORCH ∷ GOTCL ∷ GOTCH ∷ []
+
+-- a byte count is low + 2^32 × high
+abbrev pub byteCount : ℕ → ℕ → ℕ
+byteCount low high = low + 2 ^ 32 * high
+
+-- a sum with so much more
+abbrev pub sum : ℕ → ℕ → ℕ
+sum before more = (before + more) % 2 ^ 64
+
+-- the k-th word read
+abbrev pub word : List ℕ → ℕ → ℕ
+word words k = getD words k 0
+
+-- GPRC, GPTC, GORCL with GORCH, GOTCL with GOTCH
+unfoldable pub added : Stats → List ℕ → Stats
+added s words =
+    record {
+      received = sum (s .received) (word words 0);
+      sent = sum (s .sent) (word words 1);
+      «received_bytes» = sum (s .«received_bytes») (byteCount (word words 2) (word words 3));
+      «sent_bytes» = sum (s .«sent_bytes») (byteCount (word words 4) (word words 5));
+    }

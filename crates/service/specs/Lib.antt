@@ -1,0 +1,3 @@
+pub mod Counters
+pub mod Mac
+pub mod Actions
