@@ -40,13 +40,18 @@ pub fn show_stop(stop: Stop) {
     }
 }
 
-// Prints a refusal's number, and for a bad handle its index.
-pub fn show_refusal(why: Refusal) {
-    say(b" refused");
+// Prints document 01's number of a refusal, and for a bad handle its index.
+pub fn show_number(why: Refusal) {
     show(calls::refusal_number(why));
     if let Refusal::BadHandle(index) = why {
         show_count(index);
     }
+}
+
+// The same, after a word.
+pub fn show_refusal(why: Refusal) {
+    say(b" refused");
+    show_number(why);
 }
 
 // Prints that a call was done, or its refusal.
