@@ -140,7 +140,7 @@ class Chance(Stream):
             (30 if self.undo else 4, self.forging),
             (0.4, self.opened),
             (3, lambda: self.batch(d.choice((0, 1, 9, 40, FAR)), self.often(8, 33), self.rooms(min(40, self.a.entries)))),
-            (1, self.start),
+            (1, lambda: self.start(entries=self.entries())),
         ]
         weights, calls = zip(*sorts)
         d.choices(calls, weights)[0]()

@@ -1,6 +1,12 @@
 // What the records of `replay` set: bytes, places of lists and addresses, and the fields of an account. Each function says whether the
 // record was good, which it is if the places that it names are there; if not, nothing is set.
-ghost use Prim.Native.Nat.{_≤_};
+ghost use mathlib.Core.Path.{_≡_};
+ghost use Prim.Native.Nat.{_+_, _/_, _%_, _≤_};
+ghost use lib.ListN.{length};
+ghost use lib.Dec.{leb};
+ghost use lib.Seq.{paste};
+ghost use Rattle.laws.specs.Test.{pick};
+ghost use Rattle.places.specs.Setting.{halfAt, wordAt, numberAt, fits, placed, noPart, ringPart};
 use limits::ENTRIES;
 use limits::SENDS;
 use limits::SLOT_BYTES;
@@ -58,7 +64,9 @@ fn cut_word(value: usize) -> u32 {
     (value % 0x1_0000_0000) as u32
 }
 
-fn cut_u16(value: u32) -> u16 {
+fn cut_u16(value: u32) -> u16
+    ensures { λ r. ⌜ r ≡ value % 0x10000 ⌝ }
+{
     (value % 0x1_0000) as u16
 }
 
@@ -66,7 +74,7 @@ fn cut_u16(value: u32) -> u16 {
 
 // No part.
 fn no_part() -> Part
-    ensures { λ r. ⌜ r .first ≤ r .end ⌝ }
+    ensures { λ r. ⌜ r ≡ noPart ⌝ }
 {
     Part {
         first: 0,
@@ -77,7 +85,8 @@ fn no_part() -> Part
 
 // So many bytes of a ring from a place on, if they are there.
 pub fn ring_part(ring: usize, at: usize, bytes: usize) -> Part
-    ensures { λ r. ⌜ r .first ≤ r .end ⌝ }
+    ensures says { λ r. ⌜ r ≡ ringPart ring at bytes ⌝ }
+    ensures ordered { λ r. ⌜ r .first ≤ r .end ⌝ }
 {
     if RINGS <= ring {
         return no_part();
@@ -97,7 +106,10 @@ pub fn ring_part(ring: usize, at: usize, bytes: usize) -> Part
 }
 
 // Sets bytes from a place on.
-pub fn set_bytes(to: &mut [u8], at: usize, from: &[u8]) -> bool {
+pub fn set_bytes(to: &mut [u8], at: usize, from: &[u8]) -> bool
+    ensures says { λ r. ⌜ r ≡ leb (at + length (now (from .entry))) (length (now (to .entry))) ⌝ }
+    ensures leaves { λ r. ⌜ now (to .exit) ≡ pick r (paste (now (to .entry)) at (now (from .entry)) (length (now (from .entry)))) (now (to .entry)) ⌝ }
+{
     if to.len() < at {
         return false;
     }
@@ -111,7 +123,10 @@ pub fn set_bytes(to: &mut [u8], at: usize, from: &[u8]) -> bool {
 }
 
 // Sets places of u16 from a place on, each to the low half of a u32.
-pub fn set_halves(to: &mut [u16], at: usize, from: &[u8]) -> bool {
+pub fn set_halves(to: &mut [u16], at: usize, from: &[u8]) -> bool
+    ensures says { λ r. ⌜ r ≡ fits 4 at (now (from .entry)) (now (to .entry)) ⌝ }
+    ensures leaves { λ r. ⌜ now (to .exit) ≡ placed r (now (to .entry)) at (halfAt (now (from .entry))) (length (now (from .entry)) / 4) ⌝ }
+{
     if from.len() % 4 != 0 {
         return false;
     }
@@ -128,7 +143,10 @@ pub fn set_halves(to: &mut [u16], at: usize, from: &[u8]) -> bool {
 }
 
 // Sets places of u32 from a place on.
-pub fn set_words(to: &mut [u32], at: usize, from: &[u8]) -> bool {
+pub fn set_words(to: &mut [u32], at: usize, from: &[u8]) -> bool
+    ensures says { λ r. ⌜ r ≡ fits 4 at (now (from .entry)) (now (to .entry)) ⌝ }
+    ensures leaves { λ r. ⌜ now (to .exit) ≡ placed r (now (to .entry)) at (wordAt (now (from .entry))) (length (now (from .entry)) / 4) ⌝ }
+{
     if from.len() % 4 != 0 {
         return false;
     }
@@ -145,7 +163,10 @@ pub fn set_words(to: &mut [u32], at: usize, from: &[u8]) -> bool {
 }
 
 // Sets places of u64 from a place on.
-pub fn set_numbers(to: &mut [u64], at: usize, from: &[u8]) -> bool {
+pub fn set_numbers(to: &mut [u64], at: usize, from: &[u8]) -> bool
+    ensures says { λ r. ⌜ r ≡ fits 8 at (now (from .entry)) (now (to .entry)) ⌝ }
+    ensures leaves { λ r. ⌜ now (to .exit) ≡ placed r (now (to .entry)) at (numberAt (now (from .entry))) (length (now (from .entry)) / 8) ⌝ }
+{
     if from.len() % 8 != 0 {
         return false;
     }
