@@ -15,7 +15,7 @@ use Rattle.rules.specs.Refusals.{viewVerdict, headroomVerdict}
 use Rattle.rules.specs.Packets.{placeOf, Lent, within, noPart, viewCall, headroomCall}
 
 -- no refusal has number 0
-not-zero : (why : Refusal) → refusalNumber why ≡ 0 → ⊥
+pub not-zero : (why : Refusal) → refusalNumber why ≡ 0 → ⊥
 not-zero Unsound e = omega arith
 not-zero WrongSize e = omega arith
 not-zero NoQueue e = omega arith

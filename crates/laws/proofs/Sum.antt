@@ -65,7 +65,7 @@ sum-grows (suc n) q d f g h grown same =
         omega (arith, less (lt-of-le-ne (omega arith) (λ s. ne (sym s))), same n (omega arith) ne)
 
 -- the length of a list of numbers below n is the sum of its counts
-sum-counts : (n : ℕ) (l : List ℕ) → ((x : ℕ) → n ≤ x → occurs x l ≡ 0) → sumTo n (λ x. occurs x l) ≡ length l
+pub sum-counts : (n : ℕ) (l : List ℕ) → ((x : ℕ) → n ≤ x → occurs x l ≡ 0) → sumTo n (λ x. occurs x l) ≡ length l
 sum-counts n [] h = sum-zeros n
 sum-counts n (y ∷ l) h =
     let rest : sumTo n (λ x. occurs x l) ≡ length l = sum-counts n l (λ x out. omega (arith, h x out)) in

@@ -1,0 +1,23 @@
+-- `desk::stand_in` meets its contract: one entry of the smallest size is in range. Assumes nothing.
+use mathlib.Core.Path.{_≡_, refl}
+use Rattle.rules.specs.Packets.{freshCall}
+use Rattle.rules.specs.Sound.{isSize, inRange}
+use Rattle.rules.specs.Refusals.{freshVerdict}
+use Rattle.laws.specs.Test.{some}
+use Rattle.stream.specs.Bench.{freshAnswer}
+use borrow.Author.Needs.{needs}
+use Rattle.desk.proofs.stand_in.Statement.{statement}
+use Rattle.desk.proofs.stand_in.Tie as tie
+
+fresh-requires : tie.Need-fresh-requires
+fresh-requires c κs = search needs
+
+in-range : freshAnswer 1 64 0 .number ≡ 0
+unfolding freshAnswer freshCall freshVerdict inRange isSize some
+in-range = refl
+
+returns : tie.Need-returns
+returns c = c .before .fresh .ensures .1 (rw (c .before .fresh .ensures .0) in-range)
+
+pub stand-in-spec : {M : Type 1} → statement M
+stand-in-spec = tie.close (tie.spec fresh-requires returns)

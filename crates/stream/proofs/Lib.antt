@@ -1,0 +1,4 @@
+pub mod Memory
+pub mod Sized
+pub mod Keeps
+pub mod Counts
