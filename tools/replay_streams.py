@@ -183,19 +183,27 @@ def stops(s):
     s.start()
     for n in (0, 1, 5):
         s.receive(n)
-    for k, (status, length) in enumerate(((1, 60), (2, 60), (0, 65535), (3, 65), (3, 65535), (1, 65), (0xFFFFFFFC, 3), (0xFFFFFFFD, 3))):
-        s.frame(k % 2, 3, 64)
-        s.frame((k + 1) % 2, status, length)
+    reasons = ((1, 60), (2, 60), (0, 65535), (3, 65), (3, 65535), (1, 65), (2, 65), (0xFFFFFFFC, 3), (0xFFFFFFFD, 3))
+    for status, length in reasons:
+        at = s.a.rx
+        s.frame(at, 3, 64)
+        s.frame(at + 1, status, length)
         s.receive(2)
+        s.receive(2)
+        s.add("release", 7, s.host.lists[1][0], 0, 64)
     s.look()
-    for slot in range(8):
-        s.frame(slot, 3 + 4 * slot, 8 * slot)
+    for slot in range(s.a.rx, s.a.rx + 8):
+        s.frame(slot, 3 + 4 * slot, 8 * (slot % 8))
     s.receive(3)
     s.receive(3)
     s.slots(0, 0, 1, 2, 3)
     s.held(6)
     s.receive(9)
     s.receive(9)
+    for status, length in reasons:
+        s.frame(s.a.rx, status, length)
+        s.receive(0)
+        s.receive(2)
     s.look()
     number = s.host.lists[1][0]
     for asked in (0, 1, 32, 33):
@@ -381,6 +389,64 @@ def forgeries(s):
     s.look()
 
 
+def pairs(s):
+    """An empty queue with both indices forged, so that only their own rules can fail: a sound one is sent on."""
+    base(s)
+    for value in (1, 16, 31, 32, 33, 48, 256, 480, 496, 511, 512, 544, FAR):
+        s.add("forge", 12, 1, value)
+        s.add("forge", 13, 1, value)
+        s.add("sound")
+        s.send(0, q=1, ring=3)
+        s.add("counts")
+    s.add("forge", 12, 1, 480)
+    s.add("forge", 13, 1, 480)
+    s.look()
+
+
+def past_entries(s):
+    """The hand of an id past the entries is forged as out: the account is sound, and no call takes the id for good."""
+    base(s)
+    handle = (7, 700, 32, 8)
+    s.add("forge", 9, 700, 2)
+    s.look()
+    s.add("counts")
+    s.add("truncate", *handle, 3)
+    s.add("view", *handle, s.memory())
+    s.add("clone", *handle, s.memory())
+    s.add("headroom", *handle, 3, s.memory(), 5)
+    s.add("release", *handle)
+    s.lists([handle])
+    s.send(1)
+    s.look()
+
+
+def not_started(s):
+    """A ring that has not started, with an rx index or said to be started; no entries; a started ring with no queue."""
+    for entries in (5, 600):
+        s.fresh(entries)
+        for value in (1, 511, 0):
+            s.add("forge", 7, 0, value)
+            s.add("sound")
+            s.add("take", 8)
+        s.add("forge", 6, 0, 1)
+        s.look()
+        s.add("forge", 6, 0, 0)
+        s.look()
+    s.fresh(1)
+    s.add("forge", 1, 0, 0)
+    s.add("forge", 5, 0, 0)
+    s.look()
+    s.add("take", 8)
+    s.fresh(600)
+    s.banks()
+    s.start()
+    s.add("forge", 3, 0, 0)
+    s.look()
+    s.receive(1)
+    s.add("forge", 6, 0, 0)
+    s.look()
+
+
 def forged_calls(s):
     """Every call on three accounts that are not sound, with everything shown before and after."""
     for field, place, value in ((5, 0, 5000), (9, 0, 2), (7, 0, 512)):
@@ -427,7 +493,7 @@ def stored():
     """Every scene, some random records, and one that is not good."""
     s = Chance(1)
     packets, rings = (takes, handles, batches, memories), (starts, stops, receives, sends, sends_done, cleaning)
-    for scene in (blank, freshes, *packets, *rings, forgeries, forged_calls, edges):
+    for scene in (blank, freshes, *packets, *rings, forgeries, pairs, past_entries, not_started, forged_calls, edges):
         scene(s)
     s.chances(s.count + 2000)
     return s.bytes + packed("slot", 0, 1024) + packed("sound")
