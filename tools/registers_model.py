@@ -1,17 +1,12 @@
-"""What the register records of docs/REPLAY.md (kinds 22 and 40 to 75) must print: a model written from document 01 ("Registers", the table of
-numbers), from src/ixgbe.rs and src/interrupts.rs of ixy.rs, and from docs/DECISIONS.md where document 01 leaves a point open:
-
-    python3 tools/registers_model.py < crates/pulls/stdin | cmp - crates/pulls/stdout
-
-registers_card.py has the card. `Registers.answer` takes a record's kind and body and gives its line without the number, or None if it is bad.
+"""What the register records of docs/REPLAY.md (kinds 40 to 75) answer: a model written from document 01 ("Registers", the table of numbers), from
+src/ixgbe.rs and src/interrupts.rs of ixy.rs, and from docs/DECISIONS.md where document 01 leaves a point open. replay_model.py has the records and
+the addresses, registers_card.py the card.
 """
-import struct
-import sys
 from functools import lru_cache
+from struct import pack
 from registers_card import LINKS, MSI, MSIX, U32, Device, in_map, speed
 
 U64 = 2**64 - 1
-ADDRESSES = 5000  # places of the kept list of addresses
 RINGS = 128  # ring addresses of a start-up state
 MOST = 64  # rates of a window
 
@@ -203,38 +198,20 @@ class Window:
 
 
 class Registers:
-    """What the program keeps for the registers' calls, and a method for each kind."""
+    """What the program keeps for the registers' calls beside the addresses, and a method for each kind. None is the answer of a bad record."""
 
-    def __init__(self):
-        self.addresses = [0] * ADDRESSES
+    def __init__(self, addresses):
+        self.addresses = addresses
         self.state = StartUp()
         self.window = Window()
         self.sums = [0, 0, 0, 0]
 
-    def answer(self, kind, body):
-        if kind == 22:
-            return self.set_addresses(body)
-        if kind not in KINDS:
-            return None
-        word, shape, method = KINDS[kind]
-        if len(body) != struct.calcsize(shape):
-            return None
-        answer = method(self, *struct.unpack(shape, body))
-        if answer is None:
-            return None
-        return " ".join([word] + [str(part) for part in (answer if isinstance(answer, (tuple, list)) else [answer])])
-
-    def set_addresses(self, body):
-        if len(body) < 2 or len(body) % 8 != 2:
-            return None
-        at, count = struct.unpack_from("<H", body)[0], len(body) // 8
-        if at + count > ADDRESSES:
-            return None
-        self.addresses[at : at + count] = struct.unpack(f"<{count}Q", body[2:])
-        return f"addresses {count}"
+    def answer(self, kind, *numbers):
+        answer = KINDS[kind][2](self, *numbers)
+        return list(answer) if isinstance(answer, (tuple, list)) else answer if answer is None else [answer]
 
     def set_up(self, length, receives, sends, tries, asked, kind, rate, count):
-        if count > ADDRESSES:
+        if count > len(self.addresses):
             return None
         kind = kind if asked else None
         number = set_up_number(receives, sends, tries, kind, count)
@@ -274,7 +251,7 @@ class Registers:
         return call(length, made, 0, Device.get_mac)
 
     def mac_of(self, low, high):
-        return tuple(struct.pack("<II", low, high)[:6])
+        return tuple(pack("<II", low, high)[:6])
 
     def mac_write(self, length, mac, made):
         return call(length, made, 0, lambda device: device.set_mac(mac))
@@ -320,48 +297,28 @@ class Registers:
 
 
 KINDS = {
-    40: ("set-up", "<QQQQHQIH", Registers.set_up),
-    41: ("step", "<I", Registers.step),
-    42: ("state-sound", "<", Registers.state_sound),
-    43: ("forge-state", "<HHQ", Registers.forge_state),
-    50: ("counters", "<QQ", Registers.counters),
-    51: ("add", "<6I", Registers.add),
-    52: ("sums", "<4Q", Registers.set_sums),
-    53: ("link", "<QQ", Registers.link),
-    54: ("speed", "<I", Registers.link_speed),
-    55: ("mac", "<QQ", Registers.mac),
-    56: ("mac-of", "<II", Registers.mac_of),
-    57: ("mac-write", "<Q6sQ", Registers.mac_write),
-    58: ("promiscuous", "<QBQI", Registers.promiscuous),
-    59: ("enable", "<QQQIQI", Registers.enable),
-    60: ("disable", "<QQQI", Registers.disable),
-    61: ("byte-count", "<II", Registers.byte_count),
-    62: ("in-map", "<QI", Registers.is_in_map),
-    70: ("window", "<QQQ", Registers.open_window),
-    71: ("tick", "<", Registers.tick),
-    72: ("rated", "<QIQQ", Registers.rated),
-    73: ("window-sound", "<", Registers.window_sound),
-    74: ("forge-window", "<HHQ", Registers.forge_window),
-    75: ("window-fields", "<", Registers.window_fields),
+    40: ("set-up", "QQQQHQIH", Registers.set_up),
+    41: ("step", "I", Registers.step),
+    42: ("state-sound", "", Registers.state_sound),
+    43: ("forge-state", "HHQ", Registers.forge_state),
+    50: ("counters", "QQ", Registers.counters),
+    51: ("add", "6I", Registers.add),
+    52: ("sums", "4Q", Registers.set_sums),
+    53: ("link", "QQ", Registers.link),
+    54: ("speed", "I", Registers.link_speed),
+    55: ("mac", "QQ", Registers.mac),
+    56: ("mac-of", "II", Registers.mac_of),
+    57: ("mac-write", "Q6sQ", Registers.mac_write),
+    58: ("promiscuous", "QBQI", Registers.promiscuous),
+    59: ("enable", "QQQIQI", Registers.enable),
+    60: ("disable", "QQQI", Registers.disable),
+    61: ("byte-count", "II", Registers.byte_count),
+    62: ("in-map", "QI", Registers.is_in_map),
+    70: ("window", "QQQ", Registers.open_window),
+    71: ("tick", "", Registers.tick),
+    72: ("rated", "QIQQ", Registers.rated),
+    73: ("window-sound", "", Registers.window_sound),
+    74: ("forge-window", "HHQ", Registers.forge_window),
+    75: ("window-fields", "", Registers.window_fields),
 }
 
-
-def replayed(stream):
-    """The lines of a stream of records."""
-    model, at, number = Registers(), 0, 0
-    while at < len(stream):
-        number += 1
-        line = None
-        if at + 4 <= len(stream):
-            size, kind = struct.unpack_from("<HH", stream, at)
-            if size >= 2 and at + 2 + size <= len(stream):
-                line = model.answer(kind, stream[at + 4 : at + 2 + size])
-        if line is None:
-            yield f"bad {number}"
-            return
-        yield f"{number} {line}"
-        at += 2 + size
-
-
-if __name__ == "__main__":
-    sys.stdout.write("".join(line + "\n" for line in replayed(sys.stdin.buffer.read())))

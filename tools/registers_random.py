@@ -1,14 +1,8 @@
-"""Random streams of register records (docs/REPLAY.md, kinds 22 and 40 to 75), by a seed and a number of records; the last record is a bad one:
-
-    python3 tools/registers_random.py 7 50000 > records
-    target/bin/pulls < records | cmp - <(python3 tools/registers_model.py < records)
-"""
-import random
-import struct
-import sys
+"""Random register records (docs/REPLAY.md, kinds 40 to 75) and the addresses of their set-ups."""
 from registers_card import COUNTERS, EEC, EIAC, EICR, EIMC, EIMS, FCTRL, GPIE, LINKS, RAH, RAL, U32, eitr, ivar
-from registers_model import ADDRESSES, KINDS, U64
-from registers_streams import MAP, WIDE, Stream
+from registers_model import U64
+from registers_streams import MAP, WIDE
+from replay_model import PLACES
 
 
 def number(rng, *usual):
@@ -35,7 +29,7 @@ def random_state(rng, s):
     items = s.model.state.items() if s.model.state.passes() else []
     field = rng.choice((0, 1, 2, 3, 4, 5, 6, 7, 7, 8, 8, 9, 9))
     usual = ((MAP, EEC + 4), (0, 1, 16), (0, 1, 64), (1, 2, 10000), (0, 2, 3), (7,), (1, U64), (0, len(items), rng.randrange(len(items) + 1)), (0, 1, 2, 3), (0, 10, 11))
-    s.put("forge-state", field, rng.randrange(128) if field == 6 else 0, number(rng, *(usual[field] if field != 6 else (1, U64))))
+    s.add("forge-state", field, rng.randrange(128) if field == 6 else 0, number(rng, *(usual[field] if field != 6 else (1, U64))))
 
 
 def random_window(rng, s):
@@ -43,12 +37,13 @@ def random_window(rng, s):
     field = rng.randrange(8)
     total = sum(window.rates[: min(window.count, 64)])
     usual = ((2, 5, 64), (3, 1200), (10, 0), (0, 1), (0, 4095), (total,), (window.size - 1 if window.size else 0, 0, 1), (1, U32))
-    s.put("forge-window", field, rng.randrange(64) if field == 7 else 0, number(rng, *usual[field]))
+    s.add("forge-window", field, rng.randrange(64) if field == 7 else 0, number(rng, *usual[field]))
     if rng.random() < 0.5:
         s.forge_window(sum=sum(window.rates[: min(window.count, 64)]))
 
 
 def random_record(rng, s):
+    """One more, or a few of one sort."""
     made = number(rng, *range(10))
     queue = number(rng, *range(17))
     pick = rng.randrange(34) if s.model.window.sound() else rng.choice((28, rng.randrange(34)))
@@ -57,82 +52,46 @@ def random_record(rng, s):
         s.addresses(at, *[rng.randrange(2**64) for _ in range(rng.randrange(6))])
     elif pick < 4:
         receives, sends = number(rng, 0, 1, 2, 16), number(rng, 0, 1, 3)
-        asked, kind, count = rng.choice((0, 1, 1, 65535)), number(rng, 1, 2), min(ADDRESSES, max(0, receives + sends + rng.choice((0, 0, 0, 1, -1))))
-        s.put("set-up", number(rng, MAP, EEC + 3, RAL + 4), receives, sends, number(rng, 1, 2, 3, 10000), asked, kind, word32(rng), count)
+        asked, kind, count = rng.choice((0, 1, 1, 65535)), number(rng, 1, 2), min(PLACES, max(0, receives + sends + rng.choice((0, 0, 0, 1, -1))))
+        s.add("set-up", number(rng, MAP, EEC + 3, RAL + 4), receives, sends, number(rng, 1, 2, 3, 10000), asked, kind, word32(rng), count)
     elif pick < 14:
         if rng.random() < 0.8 and (s.model.state.kept or not s.model.state.sound()):
             s.set_up(rng.randrange(4), rng.randrange(4), rng.randrange(1, 4), rng.choice((None, 1, 2)), rate=word32(rng))
         for _ in range(rng.choice((1, 1, 3, 30))):
-            s.put("step", s.card(rng.random() < 0.9) if rng.random() < 0.8 else word32(rng))
+            s.add("step", s.card(rng.random() < 0.9) if rng.random() < 0.8 else word32(rng))
     elif pick < 16:
         random_state(rng, s)
-        s.put("state-sound")
+        s.add("state-sound")
     elif pick < 18:
-        s.put(rng.choice(("counters", "link", "mac")), random_map(rng), made)
+        s.add(rng.choice(("counters", "link", "mac")), random_map(rng), made)
     elif pick == 18:
-        s.put("add", *[word32(rng) for _ in range(6)])
+        s.add("add", *[word32(rng) for _ in range(6)])
     elif pick == 19:
-        s.put("sums", *[number(rng, U64, U64 - U32, 0) for _ in range(4)])
+        s.add("sums", *[number(rng, U64, U64 - U32, 0) for _ in range(4)])
     elif pick == 20:
-        s.put("speed", word32(rng) | rng.choice((0, 0x40000000)))
+        s.add("speed", word32(rng) | rng.choice((0, 0x40000000)))
     elif pick == 21:
-        s.put(rng.choice(("mac-of", "byte-count")), word32(rng), word32(rng))
+        s.add(rng.choice(("mac-of", "byte-count")), word32(rng), word32(rng))
     elif pick == 22:
-        s.put("mac-write", random_map(rng), rng.randbytes(6), made)
+        s.add("mac-write", random_map(rng), rng.randbytes(6), made)
     elif pick == 23:
-        s.put("promiscuous", random_map(rng), rng.randrange(4), made, word32(rng))
+        s.add("promiscuous", random_map(rng), rng.randrange(4), made, word32(rng))
     elif pick < 26:
-        s.put("enable", random_map(rng), number(rng, 1, 2), queue, word32(rng), made, word32(rng))
+        s.add("enable", random_map(rng), number(rng, 1, 2), queue, word32(rng), made, word32(rng))
     elif pick == 26:
-        s.put("disable", random_map(rng), queue, made, word32(rng))
+        s.add("disable", random_map(rng), queue, made, word32(rng))
     elif pick == 27:
-        s.put("in-map", random_map(rng), rng.choice((EIMS, EIMC, RAH, EEC, word32(rng))))
+        s.add("in-map", random_map(rng), rng.choice((EIMS, EIMC, RAH, EEC, word32(rng))))
     elif pick == 28:
-        s.put("window", number(rng, 2, 3, 5, 64), number(rng, 3, 1200), number(rng, 0, 10))
+        s.add("window", number(rng, 2, 3, 5, 64), number(rng, 3, 1200), number(rng, 0, 10))
     elif pick == 29:
         for _ in range(rng.choice((1, 2, 40))):
-            s.put("tick")
+            s.add("tick")
     elif pick < 32:
         for _ in range(rng.choice((1, 2, 8, 70))):
-            s.put("rated", number(rng, 11, 10, 0), word32(rng) if rng.random() < 0.3 else rng.randrange(9), number(rng, 1, 2, 3), number(rng, 2, 3, 4))
+            s.add("rated", number(rng, 11, 10, 0), word32(rng) if rng.random() < 0.3 else rng.randrange(9), number(rng, 1, 2, 3), number(rng, 2, 3, 4))
     elif pick == 32:
         random_window(rng, s)
-        s.put("window-sound")
+        s.add("window-sound")
     else:
-        s.put(rng.choice(("window-fields", "window-sound", "state-sound")))
-
-
-def random_bad(rng, s):
-    """A record of an unknown kind, of a wrong length, or with a place outside; or one that is cut short."""
-    pick = rng.randrange(6)
-    kind, (_, shape, _) = rng.choice(sorted(KINDS.items()))
-    size = struct.calcsize(shape)
-    if pick == 0:
-        s.raw(rng.choice([k for k in (*range(35, 80), 0, 65535) if k not in KINDS]), rng.randbytes(rng.randrange(9)))
-    elif pick == 1:
-        s.raw(kind, rng.randbytes(max(0, size + rng.choice((-1, 1, 8))) if size else 1))
-    elif pick == 2:
-        field, place = rng.choice(((10, 0), (6, 128), (0, 1), (9, 1), (65535, 0), (6, 65535)))
-        s.put("forge-state", field, place, 0)
-    elif pick == 3:
-        field, place = rng.choice(((8, 0), (7, 64), (0, 1), (6, 1), (65535, 0), (7, 65535)))
-        s.put("forge-window", field, place, 0)
-    elif pick == 4:
-        at, count = rng.choice(((ADDRESSES, 1), (ADDRESSES - 1, 2), (65535, 0), (ADDRESSES + 1, 0)))
-        s.raw(22, struct.pack(f"<H{count}Q", at, *[1] * count) if rng.random() < 0.7 else bytes(rng.choice((0, 1, 3, 9))))
-    else:
-        s.put("set-up", MAP, 1, 1, 1, 0, 0, 0, rng.choice((ADDRESSES + 1, 65535)))
-
-
-def random_stream(seed, count):
-    rng, s = random.Random(seed), Stream()
-    while s.count < count:
-        random_record(rng, s)
-    random_bad(rng, s)
-    if rng.random() < 0.3:
-        del s.bytes[-rng.randrange(1, 4) :]
-    return s
-
-
-if __name__ == "__main__":
-    sys.stdout.buffer.write(random_stream(int(sys.argv[1]), int(sys.argv[2])).bytes)
+        s.add(rng.choice(("window-fields", "window-sound", "state-sound")))

@@ -65,9 +65,19 @@ def forged():
         yield packed("array", field, 0, size + 1)
 
 
+def no_registers():
+    """Places that a start-up state or a window does not have, and a set-up lent more addresses than there are."""
+    for field, place in ((10, 0), (6, 128), (0, 1), (9, 1), (65535, 0), (6, 65535)):
+        yield packed("forge-state", field, place, 0)
+    for field, place in ((8, 0), (7, 64), (0, 1), (6, 1), (65535, 0), (7, 65535)):
+        yield packed("forge-window", field, place, 0)
+    for count in (5001, 65535):
+        yield packed("set-up", 0x20000, 1, 1, 1, 0, 0, 0, count)
+
+
 def misframed():
     """Unknown kinds, and records that are too short, too long or cut."""
-    for kind in (0, 14, 19, 25, 29, 35, 257, 65535):
+    for kind in (0, 15, 19, 25, 29, 35, 39, 44, 49, 63, 69, 76, 257, 65535):
         yield raw(kind, b"")
         yield raw(kind, bytes(36))
     for kind, (word, form, unit) in KINDS.items():
@@ -88,7 +98,7 @@ def misframed():
 def bad_streams():
     """A stream for each record that is not good. Where it is not cut, a good record follows it, which prints nothing."""
     first = packed("fresh", 7, 5, 64, 1, 4) + packed("take", 8)
-    for record in itertools.chain(outside(), forged()):
+    for record in itertools.chain(outside(), forged(), no_registers()):
         yield first + record + packed("sound")
     for record in misframed():
         yield first + record
@@ -97,7 +107,7 @@ def bad_streams():
 def shown(line):
     """A call and what it answered."""
     _, word, *answer = line.split() if not line.startswith("bad") else ("", "bad")
-    return (word, answer[0]) if word in KIND and KIND[word][0] < 14 else (word, "")
+    return (word, answer[0]) if word in KIND and KIND[word][0] < 15 else (word, "")
 
 
 def compared(program, stream, answers):

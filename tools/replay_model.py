@@ -2,15 +2,17 @@
 
     python3 tools/replay_model.py < crates/replay/stdin | cmp - crates/replay/stdout
 
-The rules of rings and soundness are those of rounds_model.py. What document 01 leaves open is taken from docs/DECISIONS.md: what a refused
-call answers (D2, D3), how many handles a send has (D8), an oversize batch (D9), a clone of a long frame (D10).
+The rules of rings and soundness are those of rounds_model.py, the registers' calls those of registers_model.py. What document 01 leaves open is
+taken from docs/DECISIONS.md: what a refused call answers (D2, D3), how many handles a send has (D8), an oversize batch (D9), a clone of a long
+frame (D10).
 """
 import struct
 import sys
 
+import registers_model
 from rounds_model import RING, Account, Refused, batch, digest, good, need, receive, send, start
 
-RINGS, PLACES, MEMORY = 5, 5000, 131072
+RINGS, PLACES, MEMORY = 5, 5000, 2**22
 
 # a kind's word, the numbers of its body, and the bytes of each place that it sets
 KINDS = {
@@ -27,6 +29,7 @@ KINDS = {
     11: ("receive", "Q3HQ4H", 0),
     12: ("send", "Q3H4H", 0),
     13: ("sound", "", 0),
+    14: ("in-range", "4Q", 0),
     20: ("ring", "HH", 1),
     21: ("list", "HH", 4),
     22: ("addresses", "H", 8),
@@ -38,6 +41,7 @@ KINDS = {
     33: ("account", "", 0),
     34: ("array", "HHH", 0),
 }
+KINDS |= {kind: (word, form, 0) for kind, (word, form, _) in registers_model.KINDS.items()}
 
 # the account's fields by number, and what a value is cut to
 NUMBERS = [("pool", 2**32), ("entries", 2**64), ("size", 2**64), ("receives", 2**64), ("sends", 2**64), ("depth", 2**64), ("started", 0), ("rx", 2**64)]
@@ -60,6 +64,11 @@ def part(places, at, count):
     return places[at : at + count]
 
 
+def in_range(entries, size, receives, sends):
+    """The numbers that an account may have."""
+    return 1 <= entries <= 4096 and size in [64 << k for k in range(9)] and receives <= 1 and sends <= 4
+
+
 class Host:
     """What `replay` keeps, and a method for each kind of record, whose answer is the rest of its line."""
 
@@ -70,6 +79,7 @@ class Host:
         self.lists = [[0] * PLACES for _ in range(4)]
         self.bank = [0] * PLACES
         self.packets = bytearray(MEMORY)
+        self.registers = registers_model.Registers(self.bank)
 
     # ---- what lines have in common
 
@@ -121,7 +131,7 @@ class Host:
 
     def fresh(self, pool, entries, size, receives, sends):
         size = size or 2048
-        right = 1 <= entries <= 4096 and size in [64 << k for k in range(9)] and receives <= 1 and sends <= 4
+        right = in_range(entries, size, receives, sends)
         self.a = Account(entries, size, receives, sends, pool) if right else Account(0, 0, 0, 0, 0)
         return [0 if right else 9, *self.totals()]
 
@@ -243,6 +253,9 @@ class Host:
     def sound(self):
         return [int(self.a.sound())]
 
+    def in_range(self, *numbers):
+        return [int(in_range(*numbers))]
+
     # ---- what is set
 
     def ring(self, ring, at, *bytes):
@@ -311,7 +324,12 @@ class Host:
         sure(rest >= 0 and rest % unit == 0 if unit else rest == 0)
         if unit:
             form += str(rest // unit) + {1: "B", 4: "I", 8: "Q"}[unit]
-        return [word, *getattr(self, word)(*struct.unpack("<" + form, body))]
+        numbers = struct.unpack("<" + form, body)
+        if kind in registers_model.KINDS:
+            answer = self.registers.answer(kind, *numbers)
+            sure(answer is not None)
+            return [word, *answer]
+        return [word, *getattr(self, word.replace("-", "_"))(*numbers)]
 
 
 def records(stream):

@@ -1,12 +1,14 @@
 """Random streams for the program `replay`, by a seed."""
 import random
 
+from registers_random import random_record
+from registers_streams import Registers
 from replay_model import ARRAYS, MEMORY
-from replay_records import FAR, Stream, each_call, value_of
+from replay_records import FAR, each_call, value_of
 from rounds_model import RING
 
 
-class Chance(Stream):
+class Chance(Registers):
     """Random records, most of them such that something happens."""
 
     def __init__(self, seed):
@@ -141,6 +143,7 @@ class Chance(Stream):
             (0.4, self.opened),
             (3, lambda: self.batch(d.choice((0, 1, 9, 40, FAR)), self.often(8, 33), self.rooms(min(40, self.a.entries)))),
             (1, lambda: self.start(entries=self.entries())),
+            (25, lambda: random_record(d, self)),
         ]
         weights, calls = zip(*sorts)
         d.choices(calls, weights)[0]()

@@ -5,6 +5,7 @@
 """
 import sys
 
+import registers_streams
 from replay_model import ARRAYS, MEMORY, NUMBERS
 from replay_random import Chance, chance
 from replay_records import FAR, each_call, packed, value_of
@@ -28,13 +29,17 @@ def freshes(s):
     """Each number of a set-up at its bounds and past them."""
     for entries in (0, 1, 2, 4095, 4096, 4097, 65536, 2**32 + 1, FAR):
         s.fresh(entries)
+        s.add("in-range", entries, 64, 1, 1)
     for size in [0, 1, 32, 63, 65, 96, 2047, 16383, 16385, 32768, 2**32 + 64, 2**63, FAR] + [64 << k for k in range(9)]:
         s.fresh(3, size)
         s.add("take", max(0, s.a.size - 32))
+        s.add("in-range", 3, size, 1, 1)
     for receives in (0, 1, 2, 2**32, FAR):
         s.fresh(3, receives=receives)
+        s.add("in-range", 3, 64, receives, 1)
     for sends in (0, 1, 2, 3, 4, 5, 2**32, FAR):
         s.fresh(3, sends=sends)
+        s.add("in-range", 3, 64, 1, sends)
     for pool in (0, 2**32 - 1):
         s.fresh(3, pool=pool)
         s.add("take", 1)
@@ -139,6 +144,24 @@ def memories(s):
         s.add("clone", *handle, 256)
     s.add("bytes", 0, 256)
     s.look()
+
+
+def large_memories(s):
+    """Pools that fill the packet memory: the entries at its end, full packets, and the memory one too short."""
+    for entries, size in ((4096, 1024), (2048, 0), (256, 16384)):
+        s.fresh(entries, size)
+        size, last = s.a.size, entries - 1
+        s.add("take", size - 32)
+        s.add("memory", MEMORY - size, [k * 11 % 256 for k in range(size)])
+        handle = (7, last, 32, size - 32)
+        for memory in (MEMORY, MEMORY - 1):
+            s.add("view", *handle, memory)
+            s.add("headroom", *handle, 32, memory, 0x77)
+            s.add("clone", *handle, memory)
+        s.add("view", 7, last - 1, 32, size - 32, MEMORY)
+        s.add("bytes", MEMORY - size - 2, 40)
+        s.add("bytes", MEMORY - 2 * size, 40)
+        s.look()
 
 
 # ---- rings
@@ -490,11 +513,12 @@ def edges(s):
 
 
 def stored():
-    """Every scene, some random records, and one that is not good."""
+    """Every scene, of the registers too, some random records, and one that is not good."""
     s = Chance(1)
-    packets, rings = (takes, handles, batches, memories), (starts, stops, receives, sends, sends_done, cleaning)
+    packets, rings = (takes, handles, batches, memories, large_memories), (starts, stops, receives, sends, sends_done, cleaning)
     for scene in (blank, freshes, *packets, *rings, forgeries, pairs, past_entries, not_started, forged_calls, edges):
         scene(s)
+    registers_streams.scenes(s)
     s.chances(s.count + 2000)
     return s.bytes + packed("slot", 0, 1024) + packed("sound")
 

@@ -22,7 +22,7 @@ pub const RING_ROOM: usize = 2 * SLOTS * SLOT_BYTES;
 // The places of each list and of the addresses, and the bytes of packet memory.
 pub const LIST_PLACES: usize = 5000;
 
-pub const MEMORY_BYTES: usize = 131072;
+pub const MEMORY_BYTES: usize = 4194304;
 
 // The account's arrays, by the numbers of their fields; the fields before them are no arrays.
 pub const FREE_IDS: usize = 8;

@@ -2,11 +2,11 @@
 use answers::say;
 use answers::show;
 use answers::show_count;
-use answers::show_number;
 use libc::STDOUT_FILENO;
 use limits::SENDS;
 use pool::Handle;
 use rules::Account;
+use rules::Refusal;
 use rules::Verdict;
 
 // A line's first words: the record's number and the word of its kind, which has a space before it.
@@ -29,9 +29,20 @@ pub fn show_bad(number: u64) {
 
 // Document 01's number, and after a 4 the index.
 pub fn show_verdict(verdict: Verdict) {
-    match verdict {
-        Verdict::Done => show(0),
-        Verdict::Refused(why) => show_number(why),
+    show(calls::number(verdict));
+    if let Verdict::Refused(why) = verdict {
+        if let Refusal::BadHandle(index) = why {
+            show_count(index);
+        }
+    }
+}
+
+// Whether something holds, as 1 or 0.
+pub fn show_whether(holds: bool) {
+    if holds {
+        show(1);
+    } else {
+        show(0);
     }
 }
 

@@ -1,14 +1,16 @@
 // Makes the public calls that the records on standard input describe, and prints their answers. docs/REPLAY.md has the format.
-// What a body says stands in `script`, what is set in `places`, what a call answers in `calls`: this program only reads, calls and prints.
+// What a body says stands in `script`, what is set in `places`, what a call answers in `calls`, `startup`, `service` and `window`: this program only
+// reads, calls and prints, the registers' calls by `levers`.
 // The file `stdin` is made by tools/replay_streams.py, and `stdout` by tools/replay_model.py.
 
 mod lines;
 mod packet;
+mod reading;
 mod ring;
 mod setting;
 mod showing;
 
-use libc::STDIN_FILENO;
+use levers::Levers;
 use places::LIST_PLACES;
 use places::MEMORY_BYTES;
 use places::Next;
@@ -16,17 +18,64 @@ use places::RING_ROOM;
 use places::RINGS;
 use rules::Account;
 
-// The first kinds that call a ring, set something and show something.
+// The first kinds that call a ring, set something, show something and make a register call.
 const FIRST_RING: u16 = 10;
 
 const FIRST_SETTING: u16 = 20;
 
 const FIRST_SHOWING: u16 = 30;
 
-// A record that is not good, and the account.
-fn bad(number: u64, account: Account) -> Next {
+const FIRST_REGISTER: u16 = 40;
+
+// What is kept from record to record beside what is lent. Good: there is a next record to play.
+struct Held {
+    account: Account,
+    levers: Levers,
+    good: bool,
+}
+
+// Everything as it is at the start.
+fn start() -> Held {
+    Held {
+        account: places::blank(),
+        levers: levers::idle(),
+        good: true,
+    }
+}
+
+// The same, with nothing to go on with.
+fn over(mut held: Held) -> Held {
+    held.good = false;
+    held
+}
+
+// The line of a record that is not good, which is the last.
+fn bad(number: u64, held: Held) -> Held {
     lines::show_bad(number);
-    places::bad(account)
+    over(held)
+}
+
+// The line of a record that has none yet, because it is not good.
+fn settled(number: u64, held: Held) -> Held {
+    if held.good {
+        return held;
+    }
+    bad(number, held)
+}
+
+// After a record that may have changed the account.
+fn played(mut held: Held, next: Next) -> Held {
+    let account = next.account;
+    held.account = account;
+    held.good = next.good;
+    held
+}
+
+// After a record that may have changed what the registers' calls keep.
+fn pulled(mut held: Held, levers: Levers) -> Held {
+    held.good = levers.good;
+    held.levers = levers;
+    held
 }
 
 // A record that only shows, and the account.
@@ -107,10 +156,10 @@ fn play(
     )
 }
 
-// The same, and a line also where it is not good.
-fn play_record(
+// A record of any kind with its body: its line, unless it is not good.
+fn play_any(
     number: u64,
-    account: Account,
+    held: Held,
     kind: u16,
     body: &[u8],
     rings: &mut [u8],
@@ -120,10 +169,14 @@ fn play_record(
     offsets: &mut [u16],
     lengths: &mut [u16],
     memory: &mut [u8],
-) -> Next {
+) -> Held {
+    if FIRST_REGISTER <= kind {
+        let levers = levers::pull(number, kind, body, held.levers, &addresses[..]);
+        return pulled(held, levers);
+    }
     let next = play(
         number,
-        account,
+        held.account,
         kind,
         body,
         rings,
@@ -134,18 +187,13 @@ fn play_record(
         lengths,
         memory,
     );
-    if next.good {
-        return next;
-    }
-    bad(number, next.account)
+    played(held, next)
 }
 
-// Reads the body of a record into the first bytes of a buffer, and plays it.
-fn read_body(
+// Reads a record and plays it, with a line also where it is not good. At the end of the input there is no line and nothing to go on with.
+fn turn(
     number: u64,
-    account: Account,
-    kind: u16,
-    size: usize,
+    held: Held,
     buffer: &mut [u8],
     rings: &mut [u8],
     addresses: &mut [u64],
@@ -154,18 +202,19 @@ fn read_body(
     offsets: &mut [u16],
     lengths: &mut [u16],
     memory: &mut [u8],
-) -> Next {
-    if buffer.len() < size {
-        return bad(number, account);
+) -> Held {
+    let record = reading::read(buffer);
+    if !record.found {
+        return over(held);
     }
-    let got = io::read_full(STDIN_FILENO, &mut buffer[0..size]);
-    if got < size {
-        return bad(number, account);
+    if !record.whole {
+        return bad(number, held);
     }
-    play_record(
+    let size = record.size;
+    let next = play_any(
         number,
-        account,
-        kind,
+        held,
+        record.kind,
         &buffer[0..size],
         rings,
         addresses,
@@ -174,49 +223,8 @@ fn read_body(
         offsets,
         lengths,
         memory,
-    )
-}
-
-// Reads a record and plays it. At the end of the input it says no more than that there is nothing to go on with.
-fn read_record(
-    number: u64,
-    account: Account,
-    buffer: &mut [u8],
-    rings: &mut [u8],
-    addresses: &mut [u64],
-    pools: &mut [u32],
-    ids: &mut [u16],
-    offsets: &mut [u16],
-    lengths: &mut [u16],
-    memory: &mut [u8],
-) -> Next {
-    let mut head = [0u8; 4];
-    let got = io::read_full(STDIN_FILENO, &mut head);
-    if got == 0 {
-        return places::bad(account);
-    }
-    if got < 4 {
-        return bad(number, account);
-    }
-    let size = words::read16(&head, 0) as usize;
-    let kind = words::read16(&head, 2);
-    if size < 2 {
-        return bad(number, account);
-    }
-    read_body(
-        number,
-        account,
-        kind,
-        size - 2,
-        buffer,
-        rings,
-        addresses,
-        pools,
-        ids,
-        offsets,
-        lengths,
-        memory,
-    )
+    );
+    settled(number, next)
 }
 
 // Plays every record, to the first that is not good.
@@ -230,12 +238,12 @@ fn run(
     lengths: &mut [u16],
     memory: &mut [u8],
 ) {
-    let mut account = places::blank();
+    let mut held = start();
     let mut number: u64 = 1;
     while number < u64::MAX {
-        let next = read_record(
+        held = turn(
             number,
-            account,
+            held,
             buffer,
             rings,
             addresses,
@@ -245,12 +253,16 @@ fn run(
             lengths,
             memory,
         );
-        account = next.account;
-        if !next.good {
+        if !held.good {
             return;
         }
         number += 1;
     }
+}
+
+// Packet memory, every byte 0.
+fn blank_memory() -> [u8; MEMORY_BYTES] {
+    [0; MEMORY_BYTES]
 }
 
 fn main() {
@@ -261,7 +273,7 @@ fn main() {
     let mut ids = [0u16; LIST_PLACES];
     let mut offsets = [0u16; LIST_PLACES];
     let mut lengths = [0u16; LIST_PLACES];
-    let mut memory = [0u8; MEMORY_BYTES];
+    let mut memory = blank_memory();
     run(
         &mut buffer,
         &mut rings,

@@ -1,10 +1,10 @@
-// The calls on rings, and the test of the account: kinds 10 to 13. Each function prints its record's line and hands back the account after
+// The calls on rings, and the tests of the account and of its numbers: kinds 10 to 14. Each function prints its record's line and hands back the account after
 // the call, or says that the record is not good.
 use crate::lines::end;
 use crate::lines::head;
 use crate::lines::show_counts;
 use crate::lines::show_verdict;
-use answers::show;
+use crate::lines::show_whether;
 use answers::show_count;
 use answers::show_number;
 use answers::show_stop;
@@ -208,16 +208,27 @@ fn sound(number: u64, account: Account, body: &[u8]) -> Next {
         return places::bad(account);
     }
     head(number, b" sound");
-    if sound::is_sound(account) {
-        show(1);
-    } else {
-        show(0);
-    }
+    show_whether(sound::is_sound(account));
     end();
     places::good(account)
 }
 
-// A call on a ring, or the test of the account, by its kind.
+// Whether the numbers of a set-up are in range.
+fn in_range(number: u64, account: Account, body: &[u8]) -> Next {
+    if body.len() != script::RANGE_BYTES {
+        return places::bad(account);
+    }
+    let entries = script::number(body, 0);
+    let size = script::number(body, 8);
+    let receives = script::number(body, 16);
+    let sends = script::number(body, 24);
+    head(number, b" in-range");
+    show_whether(sound::in_range(entries, size, receives, sends));
+    end();
+    places::good(account)
+}
+
+// A call on a ring, or a test of the account or its numbers, by its kind.
 pub fn call(
     number: u64,
     account: Account,
@@ -255,6 +266,7 @@ pub fn call(
             lengths,
         ),
         script::KIND_SOUND => sound(number, account, body),
+        script::KIND_RANGE => in_range(number, account, body),
         _ => places::bad(account),
     }
 }

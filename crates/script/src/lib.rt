@@ -33,6 +33,8 @@ pub const KIND_SEND: u16 = 12;
 
 pub const KIND_SOUND: u16 = 13;
 
+pub const KIND_RANGE: u16 = 14;
+
 // The kinds that set something.
 pub const KIND_SET_RING: u16 = 20;
 
@@ -75,6 +77,8 @@ pub const LOAN_BYTES: usize = 14;
 pub const RECEIVE_BYTES: usize = 30;
 
 pub const SEND_BYTES: usize = 22;
+
+pub const RANGE_BYTES: usize = 32;
 
 pub const PLACE_BYTES: usize = 4;
 

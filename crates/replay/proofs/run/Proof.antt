@@ -2,83 +2,84 @@
 use Prim.Native.Nat.{_-_, _^_}
 use mathlib.Core.Path.{_≡_, _∙_}
 use lib.ListN.{length}
+use native.Mathlib.Omega.{arith}
 use borrow.Author.Needs.{needs}
 use Rattle.replay.proofs.run.Statement.{statement}
 use Rattle.replay.proofs.run.Tie as tie
 
 abbrev Inv-loop : tie.InvT-loop
-Inv-loop buffer₀ rings₀ addresses₀ pools₀ ids₀ offsets₀ lengths₀ memory₀ account₀ number₀ buffer rings addresses pools ids offsets lengths memory account number =
+Inv-loop buffer₀ rings₀ addresses₀ pools₀ ids₀ offsets₀ lengths₀ memory₀ held₀ number₀ buffer rings addresses pools ids offsets lengths memory held number =
     (length buffer ≡ length buffer₀) × (length rings ≡ length rings₀) × (length addresses ≡ length addresses₀) × (length pools ≡ length pools₀) × (length ids ≡ length ids₀) × (length offsets ≡ length offsets₀) × (length lengths ≡ length lengths₀) × (length memory ≡ length memory₀)
 
 abbrev μ-loop : tie.MeasureT-loop
-μ-loop buffer₀ rings₀ addresses₀ pools₀ ids₀ offsets₀ lengths₀ memory₀ account₀ number₀ buffer rings addresses pools ids offsets lengths memory account number =
+μ-loop buffer₀ rings₀ addresses₀ pools₀ ids₀ offsets₀ lengths₀ memory₀ held₀ number₀ buffer rings addresses pools ids offsets lengths memory held number =
     2 ^ 64 - number
 
 -- after a record, everything that was lent has the length that it had at first
-still : (c : tie.After-read-record Inv-loop μ-loop)
-    → (length (c .read-record .last .1 .1 .0) ≡ length (c .before .before .before .before .before .before .before .before .before .before .before .before .before .before .before .before .before .before .before .before .args .buffer .now))
-    × (length (c .read-record .last .1 .1 .1 .0) ≡ length (c .before .before .before .before .before .before .before .before .before .before .before .before .before .before .before .before .before .before .before .before .args .rings .now))
-    × (length (c .read-record .last .1 .1 .1 .1 .0) ≡ length (c .before .before .before .before .before .before .before .before .before .before .before .before .before .before .before .before .before .before .before .before .args .addresses .now))
-    × (length (c .read-record .last .1 .1 .1 .1 .1 .0) ≡ length (c .before .before .before .before .before .before .before .before .before .before .before .before .before .before .before .before .before .before .before .before .args .pools .now))
-    × (length (c .read-record .last .1 .1 .1 .1 .1 .1 .0) ≡ length (c .before .before .before .before .before .before .before .before .before .before .before .before .before .before .before .before .before .before .before .before .args .ids .now))
-    × (length (c .read-record .last .1 .1 .1 .1 .1 .1 .1 .0) ≡ length (c .before .before .before .before .before .before .before .before .before .before .before .before .before .before .before .before .before .before .before .before .args .offsets .now))
-    × (length (c .read-record .last .1 .1 .1 .1 .1 .1 .1 .1 .0) ≡ length (c .before .before .before .before .before .before .before .before .before .before .before .before .before .before .before .before .before .before .before .before .args .lengths .now))
-    × (length (c .read-record .last .1 .1 .1 .1 .1 .1 .1 .1 .1 .0) ≡ length (c .before .before .before .before .before .before .before .before .before .before .before .before .before .before .before .before .before .before .before .before .args .memory .now))
+still : (c : tie.After-turn Inv-loop μ-loop)
+    → (length (c .turn .last .1 .1 .0) ≡ length (c .before .before .before .before .before .before .before .before .before .before .before .before .before .before .before .before .before .before .before .before .args .buffer .now))
+    × (length (c .turn .last .1 .1 .1 .0) ≡ length (c .before .before .before .before .before .before .before .before .before .before .before .before .before .before .before .before .before .before .before .before .args .rings .now))
+    × (length (c .turn .last .1 .1 .1 .1 .0) ≡ length (c .before .before .before .before .before .before .before .before .before .before .before .before .before .before .before .before .before .before .before .before .args .addresses .now))
+    × (length (c .turn .last .1 .1 .1 .1 .1 .0) ≡ length (c .before .before .before .before .before .before .before .before .before .before .before .before .before .before .before .before .before .before .before .before .args .pools .now))
+    × (length (c .turn .last .1 .1 .1 .1 .1 .1 .0) ≡ length (c .before .before .before .before .before .before .before .before .before .before .before .before .before .before .before .before .before .before .before .before .args .ids .now))
+    × (length (c .turn .last .1 .1 .1 .1 .1 .1 .1 .0) ≡ length (c .before .before .before .before .before .before .before .before .before .before .before .before .before .before .before .before .before .before .before .before .args .offsets .now))
+    × (length (c .turn .last .1 .1 .1 .1 .1 .1 .1 .1 .0) ≡ length (c .before .before .before .before .before .before .before .before .before .before .before .before .before .before .before .before .before .before .before .before .args .lengths .now))
+    × (length (c .turn .last .1 .1 .1 .1 .1 .1 .1 .1 .1 .0) ≡ length (c .before .before .before .before .before .before .before .before .before .before .before .before .before .before .before .before .before .before .before .before .args .memory .now))
 still c = (
-  c .read-record .kept .1 .1 .0 ∙ c .before .before .before .before .before .before .before .before .before .before .loop .inv .0,
-  c .read-record .kept .1 .1 .1 .0 ∙ c .before .before .before .before .before .before .before .before .before .before .loop .inv .1,
-  c .read-record .kept .1 .1 .1 .1 .0 ∙ c .before .before .before .before .before .before .before .before .before .before .loop .inv .2,
-  c .read-record .kept .1 .1 .1 .1 .1 .0 ∙ c .before .before .before .before .before .before .before .before .before .before .loop .inv .3,
-  c .read-record .kept .1 .1 .1 .1 .1 .1 .0 ∙ c .before .before .before .before .before .before .before .before .before .before .loop .inv .4,
-  c .read-record .kept .1 .1 .1 .1 .1 .1 .1 .0 ∙ c .before .before .before .before .before .before .before .before .before .before .loop .inv .5,
-  c .read-record .kept .1 .1 .1 .1 .1 .1 .1 .1 .0 ∙ c .before .before .before .before .before .before .before .before .before .before .loop .inv .6,
-  c .read-record .kept .1 .1 .1 .1 .1 .1 .1 .1 .1 .0 ∙ c .before .before .before .before .before .before .before .before .before .before .loop .inv .7,
+  c .turn .kept .1 .1 .0 ∙ c .before .before .before .before .before .before .before .before .before .before .loop .inv .0,
+  c .turn .kept .1 .1 .1 .0 ∙ c .before .before .before .before .before .before .before .before .before .before .loop .inv .1,
+  c .turn .kept .1 .1 .1 .1 .0 ∙ c .before .before .before .before .before .before .before .before .before .before .loop .inv .2,
+  c .turn .kept .1 .1 .1 .1 .1 .0 ∙ c .before .before .before .before .before .before .before .before .before .before .loop .inv .3,
+  c .turn .kept .1 .1 .1 .1 .1 .1 .0 ∙ c .before .before .before .before .before .before .before .before .before .before .loop .inv .4,
+  c .turn .kept .1 .1 .1 .1 .1 .1 .1 .0 ∙ c .before .before .before .before .before .before .before .before .before .before .loop .inv .5,
+  c .turn .kept .1 .1 .1 .1 .1 .1 .1 .1 .0 ∙ c .before .before .before .before .before .before .before .before .before .before .loop .inv .6,
+  c .turn .kept .1 .1 .1 .1 .1 .1 .1 .1 .1 .0 ∙ c .before .before .before .before .before .before .before .before .before .before .loop .inv .7,
 )
 
-blank-requires : tie.Need-blank-requires Inv-loop μ-loop
-blank-requires c κs = search needs
+start-requires : tie.Need-start-requires Inv-loop μ-loop
+start-requires c κs = search needs
 
 loop-holds : tie.Need-loop-holds Inv-loop μ-loop
 loop-holds c = search needs
 
-read-record-requires : tie.Need-read-record-requires Inv-loop μ-loop
-read-record-requires c κs = search needs
+turn-requires : tie.Need-turn-requires Inv-loop μ-loop
+turn-requires c κs = search needs
 
 same-length : tie.Need-same-length Inv-loop μ-loop
-same-length c = still (c .before .before .before .before .before .before .before .before .before .before .before .before .before .before .before .before .before .before .before) .0
+same-length c = still (c .before .before .before .before .before .before .before .before .before .before .before .before .before .before .before .before .before .before) .0
 
 same-length-2 : tie.Need-same-length-2 Inv-loop μ-loop
-same-length-2 c = still (c .before .before .before .before .before .before .before .before .before .before .before .before .before .before .before .before .before .before .before) .1
+same-length-2 c = still (c .before .before .before .before .before .before .before .before .before .before .before .before .before .before .before .before .before .before) .1
 
 same-length-3 : tie.Need-same-length-3 Inv-loop μ-loop
-same-length-3 c = still (c .before .before .before .before .before .before .before .before .before .before .before .before .before .before .before .before .before .before .before) .2
+same-length-3 c = still (c .before .before .before .before .before .before .before .before .before .before .before .before .before .before .before .before .before .before) .2
 
 same-length-4 : tie.Need-same-length-4 Inv-loop μ-loop
-same-length-4 c = still (c .before .before .before .before .before .before .before .before .before .before .before .before .before .before .before .before .before .before .before) .3
+same-length-4 c = still (c .before .before .before .before .before .before .before .before .before .before .before .before .before .before .before .before .before .before) .3
 
 same-length-5 : tie.Need-same-length-5 Inv-loop μ-loop
-same-length-5 c = still (c .before .before .before .before .before .before .before .before .before .before .before .before .before .before .before .before .before .before .before) .4
+same-length-5 c = still (c .before .before .before .before .before .before .before .before .before .before .before .before .before .before .before .before .before .before) .4
 
 same-length-6 : tie.Need-same-length-6 Inv-loop μ-loop
-same-length-6 c = still (c .before .before .before .before .before .before .before .before .before .before .before .before .before .before .before .before .before .before .before) .5
+same-length-6 c = still (c .before .before .before .before .before .before .before .before .before .before .before .before .before .before .before .before .before .before) .5
 
 same-length-7 : tie.Need-same-length-7 Inv-loop μ-loop
-same-length-7 c = still (c .before .before .before .before .before .before .before .before .before .before .before .before .before .before .before .before .before .before .before) .6
+same-length-7 c = still (c .before .before .before .before .before .before .before .before .before .before .before .before .before .before .before .before .before .before) .6
 
 same-length-8 : tie.Need-same-length-8 Inv-loop μ-loop
-same-length-8 c = still (c .before .before .before .before .before .before .before .before .before .before .before .before .before .before .before .before .before .before .before) .7
+same-length-8 c = still (c .before .before .before .before .before .before .before .before .before .before .before .before .before .before .before .before .before .before) .7
 
 returns : tie.Need-returns Inv-loop μ-loop
 returns c = search needs
 
 add-number : tie.Need-add-number Inv-loop μ-loop
-add-number c = search needs
+add-number c = omega (arith, c .before .before .before .before .before .before .before .before .before .before .before .before .before .before .before .before .before .before .before .before .before .before .before .before .before .before .before .loop-test .taken)
 
 loop-less : tie.Need-loop-less Inv-loop μ-loop
-loop-less c = search needs
+loop-less c = omega (arith, c .before .before .before .before .before .before .before .before .before .before .before .before .before .before .before .before .before .before .before .before .before .before .before .before .before .before .before .loop-test .taken)
 
 loop-again : tie.Need-loop-again Inv-loop μ-loop
-loop-again c = still (c .before .before .before .before .before .before .before .before .before .before .before .before .before .before .before .before .before .before .before)
+loop-again c = still (c .before .before .before .before .before .before .before .before .before .before .before .before .before .before .before .before .before .before)
 
 same-length-9 : tie.Need-same-length-9 Inv-loop μ-loop
 same-length-9 c = search needs
@@ -113,9 +114,9 @@ run-spec =
     (tie.spec
     Inv-loop
     μ-loop
-    blank-requires
+    start-requires
     loop-holds
-    read-record-requires
+    turn-requires
     same-length
     same-length-2
     same-length-3
