@@ -1,20 +1,21 @@
 // Serves a stream of the bench's records: reads it from standard input, and prints a line for each record. Document 01, "The bench program".
-// What the bytes of a record mean, and what a record answers and leaves, stands in `stream`: here it is only read, asked and printed.
+// What the bytes of a record mean, and what the card's records do to the rings, stands in `records`; what a record answers and leaves stands in
+// `stream`. Here it is only read, asked and printed.
 ghost use mathlib.Core.Path.{_≡_};
 ghost use mathlib.Core.Bool.{true};
 ghost use Prim.Native.Nat.{_+_, _≤_};
 ghost use lib.ListN.{length};
 ghost use Rattle.limits.specs.Limits.{ENTRIES, RING-BYTES};
 ghost use Rattle.rules.specs.Sound.{sound};
-ghost use Rattle.stream.specs.Records.{MOST};
-ghost use Rattle.stream.specs.Bench.{SEND-BYTES};
+ghost use Rattle.records.specs.Records.{MOST};
+ghost use Rattle.records.specs.Card.{SEND-BYTES};
 ghost use Rattle.desk.specs.Desk.{LINE, Held, Ends};
 use libc::STDIN_FILENO;
 use libc::STDOUT_FILENO;
 use limits::ENTRIES;
 use limits::SMALLEST_SIZE;
+use records::Record;
 use rules::Account;
-use stream::Record;
 use stream::Tally;
 
 // The bytes of the input that are held at once, and the most that a record has.
@@ -211,15 +212,15 @@ fn put_bad(out: &mut [u8], from: usize, record: u64) -> usize
 // What is to be done with a record, once there is an account or before.
 fn way_of(what: Record, open: bool, sends: usize) -> Way {
     if !open {
-        if stream::kind(what) == 1 {
+        if records::kind(what) == 1 {
             return Way::Fresh;
         }
         return Way::Bad;
     }
-    if !stream::is_allowed(what, sends) {
+    if !records::is_allowed(what, sends) {
         return Way::Bad;
     }
-    if stream::is_card(what) {
+    if records::is_card(what) {
         return Way::Card;
     }
     Way::Account
@@ -284,7 +285,7 @@ fn serve_on(
             break;
         }
         let start = from + 2;
-        let what = stream::decode(&buffer[start..end]);
+        let what = records::decode(&buffer[start..end]);
         let way = way_of(what, open, account.sends);
         let mut number = 0;
         let mut value = 0;
@@ -302,7 +303,7 @@ fn serve_on(
                     open = true;
                 }
             }
-            Way::Card => stream::on_card(what, rx, tx),
+            Way::Card => records::on_card(what, rx, tx),
             Way::Account => {
                 let answer = stream::on_account(
                     what,
@@ -324,7 +325,7 @@ fn serve_on(
                 account = answer.account;
             }
         }
-        at = put_line(out, at, count, stream::kind(what), number, value, tally);
+        at = put_line(out, at, count, records::kind(what), number, value, tally);
         input = past(input, end);
         count += 1;
     }
@@ -336,15 +337,15 @@ fn serve_on(
 pub fn serve(limit: u64) -> u64 {
     let mut buffer = [0u8; INPUT];
     let mut out = [0u8; OUTPUT];
-    let mut rx = [0u8; stream::RING_BYTES];
-    let mut tx = [0u8; stream::SEND_BYTES];
+    let mut rx = [0u8; records::RING_BYTES];
+    let mut tx = [0u8; records::SEND_BYTES];
     let addresses = [0u64; ENTRIES];
     let mut offsets = [0u16; ENTRIES];
     let mut lengths = [0u16; ENTRIES];
-    let mut pools = [0u32; stream::MOST];
-    let mut ids = [0u16; stream::MOST];
-    let mut froms = [0u16; stream::MOST];
-    let mut sizes = [0u16; stream::MOST];
+    let mut pools = [0u32; records::MOST];
+    let mut ids = [0u16; records::MOST];
+    let mut froms = [0u16; records::MOST];
+    let mut sizes = [0u16; records::MOST];
     serve_on(
         limit,
         &mut buffer,

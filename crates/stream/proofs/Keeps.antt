@@ -25,8 +25,7 @@ use Rattle.rules.proofs.Verdicts.{not-done, verdict-holds}
 use Rattle.rules.proofs.Receive.{Ready, ready-turn, receive-holds}
 use Rattle.rules.proofs.Calls.{take-done, take-keeps, release-keeps, start-keeps, receive-keeps, send-keeps-account}
 use Rattle.receiving.proofs.Laws.{receivable}
-use Rattle.stream.specs.Records.{Memory, lastHandle}
-use Rattle.stream.specs.Bench.{answeredAs, startAnswer, takeAnswer, releaseAnswer, receiveAnswer, sendAnswered, ringOf, sendFrom, sendAnswer}
+use Rattle.stream.specs.Bench.{Memory, lastHandle, answeredAs, startAnswer, takeAnswer, releaseAnswer, receiveAnswer, sendAnswered, ringOf, sendFrom, sendAnswer}
 
 module _ {a : Account} (full : Full a) (e : sound a ≡ true) where
   pub start-stays : (rx addresses : List ℕ) → sound (startCall a 0 rx addresses .answer .account) ≡ true

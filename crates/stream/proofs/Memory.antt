@@ -9,8 +9,7 @@ use native.Mathlib.Omega.{arith}
 use Rattle.limits.specs.Limits.{ENTRIES}
 use Rattle.laws.specs.Occurs.{upFrom}
 use Rattle.rules.specs.Handles.{Handles, handles, putHandle, Room}
-use Rattle.stream.specs.Records.{POOL, Memory, lastHandle, idAt, sendLists}
-use Rattle.stream.specs.Bench.{remembered, rememberAll}
+use Rattle.stream.specs.Bench.{POOL, Memory, lastHandle, idAt, sendLists, remembered, rememberAll}
 
 -- ---- remembering
 

@@ -9,9 +9,9 @@ use borrow.Author.Tests.{eqb-true}
 use Rattle.limits.specs.Limits.{SLOTS}
 use Rattle.laws.specs.Test.{pick, both}
 use Rattle.words.specs.Le.{leAt}
-use Rattle.stream.specs.declared.Record.{Record}
-use Rattle.stream.specs.declared.Record.the-variants.{Fresh, Start, Take, Release, Done, Frame, Receive, Send, Bad}
-use Rattle.stream.specs.Records.{recordOf}
+use Rattle.records.specs.declared.Record.{Record}
+use Rattle.records.specs.declared.Record.the-variants.{Fresh, Start, Take, Release, Done, Frame, Receive, Send, Bad}
+use Rattle.records.specs.Records.{recordOf}
 
 module _ (b : List ℕ) where
   -- the length that a record of these bytes asks for

@@ -1,65 +1,58 @@
 -- Document 01, "The bench program": what a record answers and leaves. A line is the record's number and kind, then the number and the value of
 -- its answer, then what each hand has.
-use Prim.Native.Nat.{ℕ, zero, suc, _+_, _-_, _*_, _/_, _≤_}
+use Prim.Native.Nat.{ℕ, zero, suc, _+_, _-_, _*_}
 use mathlib.Core.Path.{_≡_}
-use mathlib.Core.Bool.{Bool}
-use mathlib.Core.List.{List, _++_}
+use mathlib.Core.List.{List, _++_, map}
 use lib.ListN.{length, getD, set, take, drop}
-use lib.Dec.{eqb, ltb}
-use Rattle.limits.specs.Limits.{ENTRIES, SENDS, SLOTS, RING-BYTES}
-use Rattle.laws.specs.Test.{pick, both}
-use Rattle.laws.specs.Occurs.{sumTo}
-use Rattle.words.specs.Le.{putLe}
-use Rattle.words.specs.Slots.{slotAt}
+use lib.Dec.{ltb}
+use Rattle.limits.specs.Limits.{ENTRIES, SLOTS, RING-BYTES}
+use Rattle.laws.specs.Test.{pick}
+use Rattle.laws.specs.Occurs.{sumTo, upFrom}
+use Rattle.words.specs.Le.{leAt}
 use Rattle.pool.specs.declared.Handle.{Handle}
 use Rattle.rules.specs.declared.Account.{Account}
 use Rattle.rules.specs.declared.Verdict.{Verdict}
 use Rattle.rules.specs.Numbers.{number, onVerdict, verdictOf, tailOr}
-use Rattle.rules.specs.Handles.{Handles, Room}
+use Rattle.rules.specs.Handles.{Handles, handles, Room}
 use Rattle.rules.specs.Account.{waiting}
 use Rattle.rules.specs.Packets.{freshCall, takeCall, releaseCall}
 use Rattle.rules.specs.Receive.{AfterStart, startCall, AfterReceive, receiveCall}
 use Rattle.rules.specs.Send.{AfterSend, sendCall}
-use Rattle.stream.specs.declared.Record.{Record}
-use Rattle.stream.specs.declared.Record.the-variants.{Fresh, Start, Take, Release, Done, Frame, Receive, Send, Bad}
+use Rattle.records.specs.declared.Record.{Record}
+use Rattle.records.specs.declared.Record.the-variants.{Fresh, Start, Take, Release, Done, Frame, Receive, Send, Bad}
+use Rattle.records.specs.Records.{MOST}
+use Rattle.records.specs.Card.{SEND-BYTES}
 use Rattle.stream.specs.declared.Tally.{Tally}
 use Rattle.stream.specs.declared.Answer.{Answer}
-use Rattle.stream.specs.Records.{MOST, POOL, Memory, memoryAs, lastHandle, sendLists}
 
--- the send rings stand one after the other
-abbrev pub SEND-BYTES : ℕ
-SEND-BYTES = SENDS * RING-BYTES
+-- ---- the last handle of each id
 
--- ---- the card's records
+-- the pool number of the bench's account
+abbrev pub POOL : ℕ
+POOL = 0
 
--- a frame's status at byte 8 of its slot, its length at 12
-unfoldable pub frameRule : ℕ → ℕ → ℕ → List ℕ → List ℕ
-frameRule slot status len ring = putLe 2 (slotAt slot + 12) len (putLe 4 (slotAt slot + 8) status ring)
+pub record Memory : Type 0 where
+  pub offsets : List ℕ
+  pub lengths : List ℕ
 
--- bit 0 of the u32 at byte 12 is set
-abbrev pub doneByte : ℕ → ℕ → ℕ
-doneByte queue slot = queue * RING-BYTES + slotAt slot + 12
+abbrev pub memoryAs : List ℕ → List ℕ → Memory
+memoryAs offsets lengths = record { offsets = offsets; lengths = lengths }
 
-unfoldable pub doneRule : ℕ → ℕ → List ℕ → List ℕ
-doneRule queue slot rings = set rings (doneByte queue slot) (getD rings (doneByte queue slot) 0 / 2 * 2 + 1)
+-- never seen: offset 0, length 0
+abbrev pub lastHandle : Memory → ℕ → Handle
+lastHandle m id = record { pool = POOL; id = id; offset = getD (m .offsets) id 0; length = getD (m .lengths) id 0 }
 
-pub record Rings : Type 0 where
-  pub rx : List ℕ
-  pub tx : List ℕ
+-- the ids of a send's bytes, and their last handles
+abbrev pub idAt : List ℕ → ℕ → ℕ
+idAt b i = leAt 2 (6 + 2 * i) b
 
-abbrev pub cardAs : List ℕ → List ℕ → Rings
-cardAs rx tx = record { rx = rx; tx = tx }
-
-abbrev pub cardRule : Record → Rings → Rings
-cardRule (Fresh entries size sends) w = w
-cardRule Start w = w
-cardRule (Take size) w = w
-cardRule (Release id) w = w
-cardRule (Done queue slot) w = pick (both (ltb queue SENDS) (ltb slot SLOTS)) (cardAs (w .rx) (doneRule queue slot (w .tx))) w
-cardRule (Frame slot status len) w = pick (ltb slot SLOTS) (cardAs (frameRule slot status len (w .rx)) (w .tx)) w
-cardRule (Receive n) w = w
-cardRule (Send queue count) w = w
-cardRule Bad w = w
+unfoldable pub sendLists : List ℕ → ℕ → Memory → Handles
+sendLists b count m =
+    handles
+    (map (λ i. POOL) (upFrom 0 count))
+    (map (λ i. idAt b i) (upFrom 0 count))
+    (map (λ i. lastHandle m (idAt b i) .offset) (upFrom 0 count))
+    (map (λ i. lastHandle m (idAt b i) .length) (upFrom 0 count))
 
 -- ---- what each hand has, by the account's numbers alone: proofs/Counts.antt has that these are the counts
 

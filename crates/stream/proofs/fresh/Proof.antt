@@ -14,8 +14,7 @@ use Rattle.rules.proofs.Sound.{means-sound}
 use Rattle.rules.proofs.Verdicts.{not-done, verdict-holds}
 use Rattle.rules.proofs.Calls.{fresh-whole}
 use Rattle.calls.proofs.Parts.{not-zero}
-use Rattle.stream.specs.Records.{POOL}
-use Rattle.stream.specs.Bench.{pendingOf, tallyOf, freshAnswer}
+use Rattle.stream.specs.Bench.{POOL, pendingOf, tallyOf, freshAnswer}
 use borrow.Author.Needs.{needs}
 use Rattle.stream.proofs.fresh.Statement.{statement}
 use Rattle.stream.proofs.fresh.Tie as tie

@@ -7,7 +7,7 @@ use native.Mathlib.Omega.{arith}
 use Rattle.rules.specs.Handles.{handles, Room}
 use Rattle.rules.specs.Sound.{Full}
 use Rattle.rules.proofs.Facts.{bounds}
-use Rattle.stream.specs.Records.{MOST}
+use Rattle.records.specs.Records.{MOST}
 use Rattle.stream.specs.Bench.{StartLeft, TakeLeft, ReceiveLeft, SendLeft}
 use Rattle.stream.proofs.Sized.{send-sized}
 use Rattle.stream.proofs.Keeps.{start-answer, take-answer, release-answer, receive-answer, send-answer}

@@ -1,7 +1,7 @@
--- `stream::start_record` meets its contract: two bytes, or bad. Assumes nothing.
+-- `records::start_record` meets its contract: two bytes, or bad. Assumes nothing.
 use borrow.Author.Tests.{eq-eqb, ne-eqb}
-use Rattle.stream.proofs.start_record.Statement.{statement}
-use Rattle.stream.proofs.start_record.Tie as tie
+use Rattle.records.proofs.start_record.Statement.{statement}
+use Rattle.records.proofs.start_record.Tie as tie
 
 returns : tie.Need-returns
 returns c = rw (ne-eqb _ _ (c .if1 .taken))

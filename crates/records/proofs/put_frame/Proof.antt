@@ -1,13 +1,13 @@
--- `stream::put_frame` meets its contract: the status, and the two bytes of the length. Assumes nothing.
+-- `records::put_frame` meets its contract: the status, and the two bytes of the length. Assumes nothing.
 use mathlib.Core.Path.{_≡_}
 use Prim.Native.Nat.{_+_, _*_, _/_, _%_}
 use lib.ListN.{length-set}
 use native.Mathlib.Omega.{arith}
 use Rattle.words.specs.Le.{putLe}
-use Rattle.stream.specs.Bench.{frameRule}
+use Rattle.records.specs.Card.{frameRule}
 use borrow.Author.Needs.{needs}
-use Rattle.stream.proofs.put_frame.Statement.{statement}
-use Rattle.stream.proofs.put_frame.Tie as tie
+use Rattle.records.proofs.put_frame.Statement.{statement}
+use Rattle.records.proofs.put_frame.Tie as tie
 
 mul-at : tie.Need-mul-at
 mul-at c = search needs

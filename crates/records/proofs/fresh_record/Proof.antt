@@ -1,8 +1,8 @@
--- `stream::fresh_record` meets its contract: the length, then the three numbers. Assumes nothing.
+-- `records::fresh_record` meets its contract: the length, then the three numbers. Assumes nothing.
 use borrow.Author.Tests.{eq-eqb, ne-eqb}
 use borrow.Author.Needs.{needs}
-use Rattle.stream.proofs.fresh_record.Statement.{statement}
-use Rattle.stream.proofs.fresh_record.Tie as tie
+use Rattle.records.proofs.fresh_record.Statement.{statement}
+use Rattle.records.proofs.fresh_record.Tie as tie
 
 returns : tie.Need-returns
 returns c = rw (ne-eqb _ _ (c .if1 .taken))

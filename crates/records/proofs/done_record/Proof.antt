@@ -1,8 +1,8 @@
--- `stream::done_record` meets its contract: the length, then the slot. Assumes nothing.
+-- `records::done_record` meets its contract: the length, then the slot. Assumes nothing.
 use borrow.Author.Tests.{eq-eqb, ne-eqb, lt-ltb, le-ltb}
 use borrow.Author.Needs.{needs}
-use Rattle.stream.proofs.done_record.Statement.{statement}
-use Rattle.stream.proofs.done_record.Tie as tie
+use Rattle.records.proofs.done_record.Statement.{statement}
+use Rattle.records.proofs.done_record.Tie as tie
 
 returns : tie.Need-returns
 returns c = rw (ne-eqb _ _ (c .if1 .taken))

@@ -1,9 +1,9 @@
--- `stream::set_done` meets its contract: one byte gets its lowest bit. Assumes nothing.
+-- `records::set_done` meets its contract: one byte gets its lowest bit. Assumes nothing.
 use native.Mathlib.Omega.{arith}
-use Rattle.stream.specs.Bench.{doneByte, doneRule}
+use Rattle.records.specs.Card.{doneByte, doneRule}
 use borrow.Author.Needs.{needs}
-use Rattle.stream.proofs.set_done.Statement.{statement}
-use Rattle.stream.proofs.set_done.Tie as tie
+use Rattle.records.proofs.set_done.Statement.{statement}
+use Rattle.records.proofs.set_done.Tie as tie
 
 mul-at : tie.Need-mul-at
 mul-at c = search needs

@@ -1,8 +1,8 @@
--- `stream::on_card` meets its contract: a frame or a done bit at a place that there is, else nothing. Assumes nothing.
+-- `records::on_card` meets its contract: a frame or a done bit at a place that there is, else nothing. Assumes nothing.
 use borrow.Author.Tests.{lt-ltb, le-ltb}
 use borrow.Author.Needs.{needs}
-use Rattle.stream.proofs.on_card.Statement.{statement}
-use Rattle.stream.proofs.on_card.Tie as tie
+use Rattle.records.proofs.on_card.Statement.{statement}
+use Rattle.records.proofs.on_card.Tie as tie
 
 enum-told : tie.Need-enum-told
 enum-told c = search needs

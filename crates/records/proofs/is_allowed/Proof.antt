@@ -1,7 +1,7 @@
--- `stream::is_allowed` meets its contract: each record by its name. Assumes nothing.
+-- `records::is_allowed` meets its contract: each record by its name. Assumes nothing.
 use borrow.Author.Needs.{needs}
-use Rattle.stream.proofs.is_allowed.Statement.{statement}
-use Rattle.stream.proofs.is_allowed.Tie as tie
+use Rattle.records.proofs.is_allowed.Statement.{statement}
+use Rattle.records.proofs.is_allowed.Tie as tie
 
 enum-told : tie.Need-enum-told
 enum-told c = search needs

@@ -1,4 +1,4 @@
--- `stream::send_record` meets its contract: there are as many bytes as its count says. Assumes nothing.
+-- `records::send_record` meets its contract: there are as many bytes as its count says. Assumes nothing.
 use borrow.Author.Tests.{eq-eqb, ne-eqb}
 use Prim.Native.Nat.{_+_, _*_}
 use mathlib.Core.Path.{_≡_}
@@ -6,8 +6,8 @@ use native.Mathlib.Omega.{arith}
 use lib.ListN.{length}
 use Rattle.words.specs.Le.{leAt}
 use borrow.Author.Needs.{needs}
-use Rattle.stream.proofs.send_record.Statement.{statement}
-use Rattle.stream.proofs.send_record.Tie as tie
+use Rattle.records.proofs.send_record.Statement.{statement}
+use Rattle.records.proofs.send_record.Tie as tie
 
 returns : tie.Need-returns
 returns c = let short : length (c .before .before .args .rest .now) ≡ 6 + 2 * leAt 2 4 (c .before .before .args .rest .now) → ⊥ = λ e. omega arith in rw (ne-eqb _ _ short)

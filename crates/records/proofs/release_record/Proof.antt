@@ -1,8 +1,8 @@
--- `stream::release_record` meets its contract: the length, then the id. Assumes nothing.
+-- `records::release_record` meets its contract: the length, then the id. Assumes nothing.
 use borrow.Author.Tests.{eq-eqb, ne-eqb}
 use borrow.Author.Needs.{needs}
-use Rattle.stream.proofs.release_record.Statement.{statement}
-use Rattle.stream.proofs.release_record.Tie as tie
+use Rattle.records.proofs.release_record.Statement.{statement}
+use Rattle.records.proofs.release_record.Tie as tie
 
 returns : tie.Need-returns
 returns c = rw (ne-eqb _ _ (c .if1 .taken))

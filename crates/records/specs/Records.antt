@@ -1,17 +1,14 @@
 -- Document 01, "The bench program": which bytes mean which record. The bytes are a record's without its length: the kind, then the body.
-use Prim.Native.Nat.{ℕ, _+_, _*_, _≤_}
+use Prim.Native.Nat.{ℕ, _+_, _*_}
 use mathlib.Core.Bool.{Bool, true, false}
-use mathlib.Core.List.{List, map}
-use lib.ListN.{length, getD}
+use mathlib.Core.List.{List}
+use lib.ListN.{length}
 use lib.Dec.{eqb, ltb}
 use Rattle.limits.specs.Limits.{SLOTS}
 use Rattle.laws.specs.Test.{pick, both}
-use Rattle.laws.specs.Occurs.{upFrom}
 use Rattle.words.specs.Le.{leAt}
-use Rattle.pool.specs.declared.Handle.{Handle}
-use Rattle.rules.specs.Handles.{Handles, handles}
-use Rattle.stream.specs.declared.Record.{Record}
-use Rattle.stream.specs.declared.Record.the-variants.{Fresh, Start, Take, Release, Done, Frame, Receive, Send, Bad}
+use Rattle.records.specs.declared.Record.{Record}
+use Rattle.records.specs.declared.Record.the-variants.{Fresh, Start, Take, Release, Done, Frame, Receive, Send, Bad}
 
 -- the most ids of a record, whose length is a u16
 abbrev pub MOST : ℕ
@@ -99,32 +96,3 @@ cardOf (Frame slot status len) = true
 cardOf (Receive n) = false
 cardOf (Send queue count) = false
 cardOf Bad = false
-
--- ---- the last handle of each id
-
--- the pool number of the bench's account
-abbrev pub POOL : ℕ
-POOL = 0
-
-pub record Memory : Type 0 where
-  pub offsets : List ℕ
-  pub lengths : List ℕ
-
-abbrev pub memoryAs : List ℕ → List ℕ → Memory
-memoryAs offsets lengths = record { offsets = offsets; lengths = lengths }
-
--- never seen: offset 0, length 0
-abbrev pub lastHandle : Memory → ℕ → Handle
-lastHandle m id = record { pool = POOL; id = id; offset = getD (m .offsets) id 0; length = getD (m .lengths) id 0 }
-
--- the ids of a send's bytes, and their last handles
-abbrev pub idAt : List ℕ → ℕ → ℕ
-idAt b i = leAt 2 (6 + 2 * i) b
-
-unfoldable pub sendLists : List ℕ → ℕ → Memory → Handles
-sendLists b count m =
-    handles
-    (map (λ i. POOL) (upFrom 0 count))
-    (map (λ i. idAt b i) (upFrom 0 count))
-    (map (λ i. lastHandle m (idAt b i) .offset) (upFrom 0 count))
-    (map (λ i. lastHandle m (idAt b i) .length) (upFrom 0 count))

@@ -1,10 +1,10 @@
--- `stream::frame_record` meets its contract: the length, then the slot. Assumes nothing.
+-- `records::frame_record` meets its contract: the length, then the slot. Assumes nothing.
 use native.Mathlib.Omega.{arith}
 use borrow.Author.Tests.{eq-eqb, ne-eqb, lt-ltb, le-ltb}
 use Rattle.limits.specs.Limits.{SLOTS}
 use borrow.Author.Needs.{needs}
-use Rattle.stream.proofs.frame_record.Statement.{statement}
-use Rattle.stream.proofs.frame_record.Tie as tie
+use Rattle.records.proofs.frame_record.Statement.{statement}
+use Rattle.records.proofs.frame_record.Tie as tie
 
 returns : tie.Need-returns
 returns c = rw (ne-eqb _ _ (c .if1 .taken))

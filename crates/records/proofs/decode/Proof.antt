@@ -1,11 +1,11 @@
--- `stream::decode` meets its contract: the kind picks how the bytes are read. Assumes nothing.
+-- `records::decode` meets its contract: the kind picks how the bytes are read. Assumes nothing.
 use Prim.Native.Nat.{ℕ}
 use mathlib.Core.Path.{_≡_, refl, sym, _∙_}
 use borrow.Author.Tests.{ne-eqb, lt-ltb, le-ltb}
-use Rattle.stream.specs.Records.{byKind, recordOf}
+use Rattle.records.specs.Records.{byKind, recordOf}
 use borrow.Author.Needs.{needs}
-use Rattle.stream.proofs.decode.Statement.{statement}
-use Rattle.stream.proofs.decode.Tie as tie
+use Rattle.records.proofs.decode.Statement.{statement}
+use Rattle.records.proofs.decode.Tie as tie
 
 returns : tie.Need-returns
 unfolding recordOf
