@@ -5,8 +5,8 @@ mod serving;
 mod starting;
 
 use plan::Interrupts;
-use service::Stats;
 use startup::State;
+use stats::Stats;
 use window::Window;
 
 // What the calls change: a start-up state, a window and the sums. Good: the last record was one of these kinds and whole.

@@ -3,7 +3,7 @@ ghost use Prim.Native.Nat.{_+_, _≤_};
 ghost use lib.ListN.{length};
 use crate::Levers;
 use crate::lines;
-use service::Stats;
+use stats::Stats;
 
 // A map length and a number of actions made: the body of a call that only reads.
 const READ_BYTES: usize = 16;
@@ -59,7 +59,7 @@ fn add(number: u64, body: &[u8], levers: Levers) -> Levers {
         words::read32(body, 20),
     ];
     let before = levers.stats;
-    let stats = service::add(before, read);
+    let stats = stats::added(before, read);
     print_sums(number, b" add", stats);
     levers.with_stats(stats)
 }
@@ -200,7 +200,7 @@ fn byte_count(number: u64, body: &[u8]) -> bool {
     lines::one(
         number,
         b" byte-count",
-        service::byte_count(words::read32(body, 0), words::read32(body, 4)),
+        stats::byte_count(words::read32(body, 0), words::read32(body, 4)),
     );
     true
 }

@@ -1,6 +1,6 @@
 // Makes the public calls that the records on standard input describe, and prints their answers. docs/REPLAY.md has the format.
-// What a body says stands in `script`, what is set in `places`, what a call answers in `calls`, `startup`, `service` and `window`: this program only
-// reads, calls and prints, the registers' calls by `levers`.
+// What a body says stands in `script`, what is set in `places`, what a call answers in `calls`, `startup`, `stats`, `service` and `window`: this
+// program only reads, calls and prints, the registers' calls by `levers`.
 // The file `stdin` is made by tools/replay_streams.py, and `stdout` by tools/replay_model.py.
 
 mod lines;

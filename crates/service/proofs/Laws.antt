@@ -21,8 +21,6 @@ use Rattle.plan.specs.Sequence.{MSI, MSIX, forQueue}
 use Rattle.startup.specs.declared.Action.{Action}
 use Rattle.startup.specs.declared.Action.the-variants.{Read, Write, Pause, Done, Refused}
 use Rattle.startup.specs.Machine.{OUTSIDE, NO-INTERRUPT, SIGNALLED, numberOf, inMap}
-use Rattle.service.specs.declared.Stats.{Stats}
-use Rattle.service.specs.Counters.{byteCount, added}
 use Rattle.service.specs.Mac.{macOf, lowWord, highWord}
 use Rattle.service.specs.Actions.{counterActions, linkActions, macActions, setMacActions, promiscActions, msiActions, msixActions, disableActions, guarded, next, countersCall, linkCall, macCall, setMacCall, promiscCall, enableCall, disableCall}
 use Rattle.service.proofs.Lists.{next-done}
@@ -193,12 +191,6 @@ module _ (queue : ℕ) where
 -- two things that equal one rule
 same : {A : Type 0} {x y rule : A} → x ≡ rule → y ≡ rule → x ≡ y
 same p q = p ∙ sym q
-
-pub byte-count-unique : (low high r s : ℕ) → r ≡ byteCount low high → s ≡ byteCount low high → r ≡ s
-byte-count-unique low high r s p q = same p q
-
-pub add-unique : (stats : Stats) (words : List ℕ) (r s : Stats) → r ≡ added stats words → s ≡ added stats words → r ≡ s
-add-unique stats words r s p q = same p q
 
 pub mac-of-unique : (low high : ℕ) (r s : List ℕ) → r ≡ macOf low high → s ≡ macOf low high → r ≡ s
 mac-of-unique low high r s p q = same p q

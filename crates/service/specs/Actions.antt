@@ -5,13 +5,12 @@ use mathlib.Core.List.{List, [], _∷_, map}
 use lib.ListN.{getD}
 use lib.Dec.{eqb, ltb}
 use Rattle.laws.specs.Test.{pick}
-use Rattle.card.specs.Registers.{address, EICR, EIMS, EIMC, EIAC, EITR, IVAR, GPIE, FCTRL, RAL, RAH, LINKS}
+use Rattle.card.specs.Registers.{address, EICR, EIMS, EIMC, EIAC, EITR, IVAR, GPIE, FCTRL, RAL, RAH, LINKS, GPRC, GPTC, GORCL, GORCH, GOTCL, GOTCH}
 use Rattle.card.specs.Masks.{IRQ-ALL, IRQ-QUEUES, FCTRL-PROMISC, GPIE-MSIX, changed, queueBit, vectorClear, vectorSet}
 use Rattle.plan.specs.Sequence.{MSI, MSIX}
 use Rattle.startup.specs.declared.Action.{Action}
 use Rattle.startup.specs.declared.Action.the-variants.{Read, Write, Pause, Done, Refused}
 use Rattle.startup.specs.Machine.{OUTSIDE, NO-INTERRUPT, SIGNALLED, inMap}
-use Rattle.service.specs.Counters.{counters}
 use Rattle.service.specs.Mac.{lowWord, highWord}
 
 -- ---- the lists
@@ -22,6 +21,10 @@ plain row = address row 0
 
 abbrev pub reads : List ℕ → List Action
 reads rows = map (λ row. Read (plain row)) rows
+
+-- the counters in the order in which they are read
+abbrev pub counters : List ℕ
+counters = GPRC ∷ GPTC ∷ GORCL ∷ GORCH ∷ GOTCL ∷ GOTCH ∷ []
 
 -- read_stats, reset_stats
 abbrev pub counterActions : List Action

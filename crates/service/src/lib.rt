@@ -9,20 +9,9 @@ ghost use Rattle.card.specs.Registers.{address, ROWS, EIMS, IVAR};
 ghost use Rattle.card.specs.Masks.{changed, queueBit, vectorClear, vectorSet};
 ghost use Rattle.startup.specs.declared.Action.the-variants as action;
 ghost use Rattle.startup.specs.Machine.{SIGNALLED};
-ghost use Rattle.service.specs.Counters.{byteCount, added};
 ghost use Rattle.service.specs.Mac.{byteOf, macOf, lowWord, highWord};
 ghost use Rattle.service.specs.Actions.{guarded, countersCall, linkCall, macCall, setMacCall, promiscCall, msiActions, msixActions, disableActions, enableCall, disableCall};
 use startup::Action;
-
-// ---- statistics
-
-// The packets and bytes received and sent.
-pub struct Stats {
-    pub received: u64,
-    pub sent: u64,
-    pub received_bytes: u64,
-    pub sent_bytes: u64,
-}
 
 // The counters in the order in which they are read.
 const COUNTERS: [usize; 6] = [
@@ -33,28 +22,6 @@ const COUNTERS: [usize; 6] = [
     card::GOTCL,
     card::GOTCH,
 ];
-
-// A count of bytes, from its two words.
-pub fn byte_count(low: u32, high: u32) -> u64
-    ensures { λ r. ⌜ r ≡ byteCount low high ⌝ }
-{
-    low as u64 + ((high as u64) << 32)
-}
-
-// The record with what the six counters gave, in the order in which they are read. The sums wrap.
-pub fn add(stats: Stats, words: [u32; 6]) -> Stats
-    ensures { λ r. ⌜ r ≡ added stats words ⌝ }
-{
-    Stats {
-        received: std::num::wrapping_add_u64(stats.received, words[0] as u64),
-        sent: std::num::wrapping_add_u64(stats.sent, words[1] as u64),
-        received_bytes: std::num::wrapping_add_u64(
-            stats.received_bytes,
-            byte_count(words[2], words[3]),
-        ),
-        sent_bytes: std::num::wrapping_add_u64(stats.sent_bytes, byte_count(words[4], words[5])),
-    }
-}
 
 // ---- an action
 

@@ -91,16 +91,16 @@ module _ (w : Window) (e : sound w ≡ true) where
 -- with one more, at least one is held
 pub rate-some : (w : Window) (rate : ℕ) → Sound w → 0 < withRate w rate .count
 unfolding withRate
-rate-some w rate s = by-case (isFull w) refl
+rate-some w rate s = by-case (isFull (w .count) (w .range)) refl
   where
-    by-case : (b : Bool) → isFull w ≡ b → 0 < pick b (w .count) (w .count + 1)
+    by-case : (b : Bool) → isFull (w .count) (w .range) ≡ b → 0 < pick b (w .count) (w .count + 1)
     by-case true e = omega (arith, eqb-true (w .count + 1) (w .range) e)
     by-case false e = omega arith
 
 -- what one more rate leaves: the rates held, a sound window, and the array whole
 abbrev Taken : Window → ℕ → Type 0
 Taken w rate =
-    (held (withRate w rate) ≡ pick (isFull w) (drop 1 (held w ++ (rate ∷ []))) (held w ++ (rate ∷ [])))
+    (held (withRate w rate) ≡ pick (isFull (w .count) (w .range)) (drop 1 (held w ++ (rate ∷ []))) (held w ++ (rate ∷ [])))
     × Sound (withRate w rate)
     × (length (withRate w rate .rates) ≡ MOST-RATES)
 
@@ -144,7 +144,7 @@ module _ (w : Window) (full : length (w .rates) ≡ MOST-RATES) where
   tick-sound e = counted-sound w e
 
   -- the rates held after one more: the rates held before and the new one, without the oldest when R would be held
-  pub rate-held : (rate : ℕ) → sound w ≡ true → held (withRate w rate) ≡ pick (isFull w) (drop 1 (held w ++ (rate ∷ []))) (held w ++ (rate ∷ []))
+  pub rate-held : (rate : ℕ) → sound w ≡ true → held (withRate w rate) ≡ pick (isFull (w .count) (w .range)) (drop 1 (held w ++ (rate ∷ []))) (held w ++ (rate ∷ []))
   rate-held rate e = taken w full rate e .0
 
   pub rated-sound : (elapsed rate received asked : ℕ) → sound w ≡ true → sound (ratedCall w elapsed rate received asked .window) ≡ true

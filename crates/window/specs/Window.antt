@@ -106,8 +106,8 @@ unfoldable pub slid : ℕ → ℕ → List ℕ → List ℕ
 slid n rate rates = (drop 1 (take n rates) ++ (rate ∷ [])) ++ drop n rates
 
 -- with the new rate R are held
-abbrev pub isFull : Window → Bool
-isFull w = eqb (w .count + 1) (w .range)
+abbrev pub isFull : ℕ → ℕ → Bool
+isFull count range = eqb (count + 1) range
 
 -- the rate is added, and the oldest dropped when R are held
 unfoldable pub withRate : Window → ℕ → Window
@@ -118,9 +118,9 @@ withRate w rate =
       interval = w .interval;
       on = w .on;
       calls = w .calls;
-      sum = w .sum + rate - pick (isFull w) (getD (w .rates) 0 0) 0;
-      count = pick (isFull w) (w .count) (w .count + 1);
-      rates = pick (isFull w) (slid (w .count) rate (w .rates)) (set (w .rates) (w .count) rate);
+      sum = w .sum + rate - pick (isFull (w .count) (w .range)) (getD (w .rates) 0 0) 0;
+      count = pick (isFull (w .count) (w .range)) (w .count) (w .count + 1);
+      rates = pick (isFull (w .count) (w .range)) (slid (w .count) rate (w .rates)) (set (w .rates) (w .count) rate);
     }
 
 abbrev pub withOn : Window → Bool → Window

@@ -6,7 +6,7 @@ ghost use mathlib.Core.Bool.{true};
 ghost use Prim.Native.Nat.{_+_, _*_, _^_, _≤_, _<_};
 ghost use lib.ListN.{take};
 ghost use Rattle.limits.specs.Limits.{FEWEST-RATES, MOST-RATES};
-ghost use Rattle.window.specs.Window.{total, inRange, sound, Sound, opened, newCall, tickCall, slid, withRate, ratedCall};
+ghost use Rattle.window.specs.Window.{total, inRange, sound, Sound, opened, newCall, tickCall, isFull, slid, withRate, ratedCall};
 use limits::CLOCK_CALLS;
 use limits::FEWEST_RATES;
 use limits::MOST_RATES;
@@ -126,6 +126,14 @@ fn passes(window: Window) -> bool
     window.sum == total_of(rates, count)
 }
 
+// Are R rates held with one more?
+fn is_full(count: usize, range: usize) -> bool
+    requires { ⌜ count < range ⌝ }
+    ensures { λ r. ⌜ r ≡ isFull count range ⌝ }
+{
+    count + 1 == range
+}
+
 // The rates without the oldest of the first n, and the new one at their end.
 fn slide(before: [u32; MOST_RATES], n: usize, rate: u32) -> [u32; MOST_RATES]
     requires { ⌜ (0 < n) × (n ≤ MOST-RATES) ⌝ }
@@ -182,7 +190,7 @@ impl Window {
     {
         let count = self.count;
         let sum = self.sum + rate as u64;
-        if count + 1 == self.range {
+        if is_full(count, self.range) {
             let rates = self.rates;
             self.sum = sum - rates[0] as u64;
             self.rates = slide(rates, count, rate);

@@ -12,8 +12,7 @@ use Rattle.laws.proofs.Test.{every-at}
 use Rattle.card.specs.Registers.{ROWS}
 use Rattle.plan.proofs.Lists.{at-map}
 use Rattle.startup.specs.declared.Action.the-variants.{Read, Done}
-use Rattle.service.specs.Counters.{counters}
-use Rattle.service.specs.Actions.{plain, counterActions, countersCall}
+use Rattle.service.specs.Actions.{plain, counters, counterActions, countersCall}
 use Rattle.service.proofs.Lists.{past}
 use Rattle.service.proofs.read_counters.Statement.{statement}
 use Rattle.service.proofs.read_counters.Tie as tie

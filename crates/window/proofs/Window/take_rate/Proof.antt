@@ -1,10 +1,11 @@
 -- `window::Window::take_rate` meets its contract: by whether R are held with the new one. Assumes nothing.
-use mathlib.Core.Path.{_≡_}
+use Prim.Native.Nat.{_+_}
+use mathlib.Core.Path.{_≡_, sym, _∙_}
 use native.Mathlib.Nat.{sub-zero}
 use native.Mathlib.Omega.{arith}
 use lib.ListN.{length}
 use borrow.Author.Needs.{needs}
-use borrow.Author.Tests.{eq-eqb, ne-eqb}
+use borrow.Author.Tests.{eqb-true}
 use Rattle.limits.specs.Limits.{MOST-RATES}
 use Rattle.window.specs.Window.{withRate}
 use Rattle.window.proofs.Rates.{total-oldest}
@@ -14,8 +15,8 @@ use Rattle.window.proofs.Window.take_rate.Tie as tie
 add-sum : tie.Need-add-sum
 add-sum c = search needs
 
-add-if1 : tie.Need-add-if1
-add-if1 c = search needs
+is-full-requires : tie.Need-is-full-requires
+is-full-requires c κs = search needs
 
 array-read-self : tie.Need-array-read-self
 array-read-self c = search needs
@@ -25,16 +26,20 @@ cast-self c = search needs
 
 sub-self : tie.Need-sub-self
 sub-self c =
-    let w = c .before .before .args .t1 in
-    let full : length (w .rates) ≡ MOST-RATES = search needs in
+    let w = c .before .before .before .args .t1 in
+    let long : length (w .rates) ≡ MOST-RATES = search needs in
+    let full : w .count + 1 ≡ w .range = eqb-true _ _ (sym (c .before .before .is-full .ensures) ∙ c .before .if1 .taken) in
     omega (arith, total-oldest (w .rates) (w .count) (omega arith) (omega arith))
 
 slide-requires : tie.Need-slide-requires
-slide-requires c κs = search needs
+slide-requires c κs =
+    let w = c .before .before .before .args .t1 in
+    let full : w .count + 1 ≡ w .range = eqb-true _ _ (sym (c .before .before .is-full .ensures) ∙ c .before .if1 .taken) in
+    search needs
 
 returns : tie.Need-returns
 unfolding withRate
-returns c = rw (c .slide .ensures) (simp (eq-eqb _ _ (c .before .before .if1 .taken)))
+returns c = rw (c .slide .ensures) (simp (sym (c .before .before .before .is-full .ensures) ∙ c .before .before .if1 .taken))
 
 mul-self : tie.Need-mul-self
 mul-self c = search needs
@@ -47,14 +52,14 @@ add-self c = search needs
 
 returns-2 : tie.Need-returns-2
 unfolding withRate
-returns-2 c = simp (ne-eqb _ _ (c .if1 .left), sub-zero)
+returns-2 c = simp (sym (c .before .is-full .ensures) ∙ c .if1 .left, sub-zero)
 
 pub take-rate-spec : {M : Type 1} → statement M
 take-rate-spec =
     tie.close
     (tie.spec
     add-sum
-    add-if1
+    is-full-requires
     array-read-self
     cast-self
     sub-self

@@ -1,13 +1,8 @@
 -- Document 01, "Registers": statistics, four sums wrapping at 2^64.
 use Prim.Native.Nat.{ℕ, _+_, _*_, _%_, _^_}
-use mathlib.Core.List.{List, [], _∷_}
+use mathlib.Core.List.{List}
 use lib.ListN.{getD}
-use Rattle.card.specs.Registers.{GPRC, GPTC, GORCL, GORCH, GOTCL, GOTCH}
-use Rattle.service.specs.declared.Stats.{Stats}
-
--- the counters in the order in which they are read
-abbrev pub counters : List ℕ
-counters = GPRC ∷ GPTC ∷ GORCL ∷ GORCH ∷ GOTCL ∷ GOTCH ∷ []
+use Rattle.stats.specs.declared.Stats.{Stats}
 
 -- a byte count is low + 2^32 × high
 abbrev pub byteCount : ℕ → ℕ → ℕ
@@ -22,8 +17,8 @@ abbrev pub word : List ℕ → ℕ → ℕ
 word words k = getD words k 0
 
 -- GPRC, GPTC, GORCL with GORCH, GOTCL with GOTCH
-unfoldable pub added : Stats → List ℕ → Stats
-added s words =
+unfoldable pub withMore : Stats → List ℕ → Stats
+withMore s words =
     record {
       received = sum (s .received) (word words 0);
       sent = sum (s .sent) (word words 1);

@@ -1,8 +1,8 @@
--- `service::add` meets its contract: each sum is the one that the addition ensures. Assumes nothing.
+-- `stats::added` meets its contract: each sum is the one that the addition ensures. Assumes nothing.
 use borrow.Author.Needs.{needs}
-use Rattle.service.specs.Counters.{added}
-use Rattle.service.proofs.add.Statement.{statement}
-use Rattle.service.proofs.add.Tie as tie
+use Rattle.stats.specs.Sums.{withMore}
+use Rattle.stats.proofs.added.Statement.{statement}
+use Rattle.stats.proofs.added.Tie as tie
 
 array-read-wrapping-add-u64 : tie.Need-array-read-wrapping-add-u64
 array-read-wrapping-add-u64 c = search needs
@@ -47,11 +47,11 @@ wrapping-add-u64-requires-4 : tie.Need-wrapping-add-u64-requires-4
 wrapping-add-u64-requires-4 c κs = search needs
 
 returns : tie.Need-returns
-unfolding added
+unfolding withMore
 returns c = rw (c .before .before .before .before .before .wrapping-add-u64 .ensures, c .before .before .before .before .wrapping-add-u642 .ensures, c .before .before .wrapping-add-u643 .ensures, c .before .before .before .byte-count .ensures, c .wrapping-add-u644 .ensures, c .before .byte-count2 .ensures)
 
-pub add-spec : {M : Type 1} → statement M
-add-spec =
+pub added-spec : {M : Type 1} → statement M
+added-spec =
     tie.close
     (tie.spec
     array-read-wrapping-add-u64
