@@ -4,12 +4,13 @@ ghost use mathlib.Core.Path.{_≡_};
 ghost use mathlib.Core.Bool.{true};
 ghost use Prim.Native.Nat.{_<_};
 ghost use lib.ListN.{getD, length};
-ghost use Rattle.limits.specs.Limits.{SENDS, BATCH};
+ghost use Prim.Native.Nat.{_+_, _≤_, min};
+ghost use Rattle.limits.specs.Limits.{SENDS, SLOTS, BATCH};
 ghost use Rattle.rules.specs.Handles.{handles};
-ghost use Rattle.rules.specs.Account.{withSend};
+ghost use Rattle.rules.specs.Account.{waiting, withSend};
 ghost use Rattle.rules.specs.Sound.{sound};
 ghost use Rattle.rules.specs.Refusals.{sendVerdict};
-ghost use Rattle.rules.specs.Send.{cleaned, sentAfter, sentAs, sendEnd, sendCall};
+ghost use Rattle.rules.specs.Send.{cleaned, roomFor, sentAfter, sentAs, sendEnd, sendCall};
 ghost use Rattle.sends.specs.Lent.{Cleanable, Writable};
 use limits::BATCH;
 use limits::ENTRIES;
@@ -82,6 +83,15 @@ pub fn send_verdict(
     Verdict::Refused(Refusal::BadHandle(run))
 }
 
+// How many of n packets are sent: as many as a ring with these indices has room for.
+fn fitting(n: usize, tx: usize, clean: usize) -> usize
+    requires { ⌜ (tx < SLOTS) × (clean < SLOTS) ⌝ }
+    ensures { λ r. ⌜ r ≡ min n (roomFor (waiting tx clean)) ⌝ }
+{
+    let room = SLOTS - 1 - sends::pending(tx, clean);
+    lists::least(n, room)
+}
+
 // A send that is not refused: cleaning, then as many packets as fit.
 fn run_send(
     account: Account,
@@ -115,8 +125,7 @@ fn run_send(
         free.depth,
         &mut hands,
     );
-    let room = SLOTS - 1 - sends::pending(first, end.clean);
-    let count = lists::least(ids.len(), room);
+    let count = fitting(ids.len(), first, end.clean);
     let next = sends::send(
         q,
         count,

@@ -20,35 +20,26 @@ array-read-oldest c = search needs
 clean-requires : tie.Need-clean-requires
 clean-requires c κs = search needs
 
-sub-room : tie.Need-sub-room
-sub-room c = search needs
-
-pending-requires : tie.Need-pending-requires
-pending-requires c κs = (
+fitting-requires : tie.Need-fitting-requires
+fitting-requires c κs = (
   c .before .before .before .before .before .before .before .before .before .before .before .before .before .before .before .before .before .pre .1 .index,
   omega (arith, clean-place _ _ _ _ _ _ _ _ (c .clean2 .ensures) (c .before .before .before .before .before .before .before .before .before .before .before .before .before .before .before .before .before .pre .1 .givable .place), c .before .before .before .before .before .before .before .before .before .before .before .before .before .before .before .before .before .pre .1 .givable .place),
 )
 
-sub-room-2 : tie.Need-sub-room-2
-sub-room-2 c = search needs
-
-least-requires : tie.Need-least-requires
-least-requires c κs = search needs
-
 send-requires : tie.Need-send-requires
-send-requires c κs = writable-less (omega (arith, c .before .before .before .least .ensures)) (c .before .before .before .before .before .before .before .before .before .before .before .before .before .before .before .before .before .before .before .before .before .before .pre .2)
+send-requires c κs = writable-less (omega (arith, c .before .before .before .fitting .ensures)) (c .before .before .before .before .before .before .before .before .before .before .before .before .before .before .before .before .before .before .before .before .before .pre .2)
 
 mul-clean : tie.Need-mul-clean
-mul-clean c = omega (arith, c .before .before .before .before .before .before .before .before .before .before .before .before .before .before .before .before .before .before .before .before .before .before .before .before .before .pre .0)
+mul-clean c = omega (arith, c .before .before .before .before .before .before .before .before .before .before .before .before .before .before .before .before .before .before .before .before .before .before .before .before .pre .0)
 
 array-write-clean : tie.Need-array-write-clean
-array-write-clean c = c .before .before .before .before .before .before .before .before .before .before .before .before .before .before .before .before .before .before .before .before .before .before .before .before .before .pre .0
+array-write-clean c = c .before .before .before .before .before .before .before .before .before .before .before .before .before .before .before .before .before .before .before .before .before .before .before .before .pre .0
 
 mul-tx : tie.Need-mul-tx
-mul-tx c = omega (arith, c .before .before .before .before .before .before .before .before .before .before .before .before .before .before .before .before .before .before .before .before .before .before .before .before .before .pre .0)
+mul-tx c = omega (arith, c .before .before .before .before .before .before .before .before .before .before .before .before .before .before .before .before .before .before .before .before .before .before .before .before .pre .0)
 
 array-write-tx : tie.Need-array-write-tx
-array-write-tx c = c .before .before .before .before .before .before .before .before .before .before .before .before .before .before .before .before .before .before .before .before .before .before .before .before .before .pre .0
+array-write-tx c = c .before .before .before .before .before .before .before .before .before .before .before .before .before .before .before .before .before .before .before .before .before .before .before .before .pre .0
 
 with-send-requires : tie.Need-with-send-requires
 with-send-requires c κs = search needs
@@ -59,7 +50,7 @@ same-length c = search needs
 returns : tie.Need-returns
 returns c =
     rw (c .with-send .ensures)
-    (run-outcome (c .before .before .before .before .before .before .before .before .before .before .before .before .before .before .before .before .before .before .before .before .before .before .before .before .before .before .args .account) _ _ _ _ _ _ _ _ (c .before .before .before .before .before .before .before .before .before .clean2 .ensures) (rw (c .before .before .before .before .before .before .before .before .pending .ensures) at (c .before .before .before .before .before .before .before .least .ensures)) (c .before .before .before .send .ensures))
+    (run-outcome (c .before .before .before .before .before .before .before .before .before .before .before .before .before .before .before .before .before .before .before .before .before .before .before .before .before .args .account) _ _ _ _ _ _ _ _ (c .before .before .before .before .before .before .before .before .clean2 .ensures) (c .before .before .before .before .before .before .before .fitting .ensures) (c .before .before .before .send .ensures))
 
 pub run-send-spec : {M : Type 1} → statement M
 run-send-spec =
@@ -70,10 +61,7 @@ run-send-spec =
     mul-oldest
     array-read-oldest
     clean-requires
-    sub-room
-    pending-requires
-    sub-room-2
-    least-requires
+    fitting-requires
     send-requires
     mul-clean
     array-write-clean
