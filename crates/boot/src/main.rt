@@ -285,7 +285,7 @@ fn read_record(p: Player, record: u64) -> Moved {
     if got < 4 {
         return bad(p, record);
     }
-    let word = tape::word_at(&head, 0);
+    let word = words::read32(&head, 0);
     let size = (word % 0x1_0000) as usize;
     if size < 2 {
         return bad(p, record);

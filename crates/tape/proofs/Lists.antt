@@ -12,7 +12,8 @@ use lib.Seq.{drop-cons, append-snoc, set-at, take-at}
 use Rattle.laws.specs.Test.{pick}
 use Rattle.plan.specs.Sequence.{RINGS}
 use Rattle.startup.specs.SetUp.{begun}
-use Rattle.tape.specs.Tape.{SET-UP-BYTES, word, double, addressCount, addressList, addressesIn, interruptsOf, opened, recordOf}
+use Rattle.words.specs.Le.{leAt}
+use Rattle.tape.specs.Tape.{SET-UP-BYTES, addressCount, addressList, addressesIn, interruptsOf, opened, recordOf}
 use Rattle.tape.specs.declared.Record.{Record}
 use Rattle.tape.specs.declared.Record.the-variants.{SetUp, Values, Bad}
 
@@ -27,9 +28,9 @@ stored p zeros i v e h =
     ∙ set-at p _ (drop (suc i) zeros) v i e
     ∙ sym (append-snoc p v (drop (suc i) zeros))
 
-pub one-more : (body : List ℕ) (i : ℕ) → i < RINGS → set (addressesIn body i) i (double body (SET-UP-BYTES + 8 * i)) ≡ addressesIn body (i + 1)
+pub one-more : (body : List ℕ) (i : ℕ) → i < RINGS → set (addressesIn body i) i (leAt 8 (SET-UP-BYTES + 8 * i) body) ≡ addressesIn body (i + 1)
 one-more body i h =
-    stored (addressList body i) (replicate RINGS 0) i (double body (SET-UP-BYTES + 8 * i)) (length-addresses body i) (omega (arith, length-replicate {A = ℕ} RINGS 0))
+    stored (addressList body i) (replicate RINGS 0) i (leAt 8 (SET-UP-BYTES + 8 * i) body) (length-addresses body i) (omega (arith, length-replicate {A = ℕ} RINGS 0))
     ∙ ap (addressesIn body) (sym (add-one i))
 
 pub first-part : (body : List ℕ) (n : ℕ) → take n (addressesIn body n) ≡ addressList body n
@@ -50,12 +51,12 @@ count-fits body h = by-test (ltb ((length body - SET-UP-BYTES) / 8) RINGS) refl
 
 -- a set-up of the array's first part is that of the list
 pub opened-is : (body : List ℕ)
-    → begun (double body 0) (word body 8) (word body 12) (word body 16) (interruptsOf (word body 20) (double body 24)) (word body 32)
+    → begun (leAt 8 0 body) (leAt 4 8 body) (leAt 4 12 body) (leAt 4 16 body) (interruptsOf (leAt 4 20 body) (leAt 8 24 body)) (leAt 4 32 body)
     (take (addressCount body) (addressesIn body (addressCount body)))
     ≡ opened body
 unfolding opened
 opened-is body =
-    ap (begun (double body 0) (word body 8) (word body 12) (word body 16) (interruptsOf (word body 20) (double body 24)) (word body 32))
+    ap (begun (leAt 8 0 body) (leAt 4 8 body) (leAt 4 12 body) (leAt 4 16 body) (interruptsOf (leAt 4 20 body) (leAt 8 24 body)) (leAt 4 32 body))
     (first-part body (addressCount body))
 
 -- a record that is a set-up is long enough for one
@@ -71,7 +72,7 @@ set-up-long kind body = by-tests (eqb kind 1) (ltb (length body) SET-UP-BYTES) (
 
     by-tests : (a b c d : Bool) → ltb (length body) SET-UP-BYTES ≡ b
         → pick {A = Record} a (pick {A = Record} b Bad (pick (eqb ((length body - SET-UP-BYTES) % 8) 0) SetUp Bad))
-        (pick {A = Record} c (pick {A = Record} d (Values (word body 0) (word body 4)) Bad) Bad) ≡ SetUp
+        (pick {A = Record} c (pick {A = Record} d (Values (leAt 4 0 body) (leAt 4 4 body)) Bad) Bad) ≡ SetUp
         → SET-UP-BYTES ≤ length body
     by-tests true false c d h e = ltb-false (length body) SET-UP-BYTES h
     by-tests true true c d h e = bad-not e

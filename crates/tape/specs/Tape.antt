@@ -3,8 +3,9 @@ use Prim.Native.Nat.{ℕ, zero, suc, _+_, _-_, _*_, _/_, _%_, _^_}
 use mathlib.Core.Bool.{Bool, not}
 use mathlib.Core.List.{List, [], _∷_, _++_}
 use lib.Dec.{eqb, ltb}
-use lib.ListN.{length, getD, drop, replicate}
+use lib.ListN.{length, drop, replicate}
 use Rattle.laws.specs.Test.{pick}
+use Rattle.words.specs.Le.{leAt}
 use Rattle.plan.specs.Sequence.{RINGS}
 use Rattle.plan.specs.declared.Interrupts.{Interrupts}
 use Rattle.plan.specs.declared.Interrupts.the-variants.{Off, Kind}
@@ -15,14 +16,6 @@ use Rattle.startup.specs.SetUp.{begun}
 use Rattle.tape.specs.declared.Record.{Record}
 use Rattle.tape.specs.declared.Record.the-variants.{SetUp, Values, Bad}
 use Rattle.tape.specs.declared.Tally.{Tally}
-
--- ---- numbers in bytes
-
-abbrev pub word : List ℕ → ℕ → ℕ
-word b at = getD b at 0 + 0x100 * getD b (at + 1) 0 + 0x10000 * getD b (at + 2) 0 + 0x1000000 * getD b (at + 3) 0
-
-abbrev pub double : List ℕ → ℕ → ℕ
-double b at = word b at + 0x100000000 * word b (at + 4)
 
 -- ---- a record
 
@@ -35,7 +28,7 @@ unfoldable pub recordOf : ℕ → List ℕ → Record
 recordOf kind body =
     pick (eqb kind 1)
     (pick (ltb (length body) SET-UP-BYTES) Bad (pick (eqb ((length body - SET-UP-BYTES) % 8) 0) SetUp Bad))
-    (pick (eqb kind 2) (pick (eqb (length body) 8) (Values (word body 0) (word body 4)) Bad) Bad)
+    (pick (eqb kind 2) (pick (eqb (length body) 8) (Values (leAt 4 0 body) (leAt 4 4 body)) Bad) Bad)
 
 -- ---- a set-up
 
@@ -46,7 +39,7 @@ addressCount body = pick (ltb ((length body - SET-UP-BYTES) / 8) RINGS) ((length
 -- the first n addresses
 abbrev pub addressList : List ℕ → ℕ → List ℕ
 addressList body zero = []
-addressList body (suc n) = addressList body n ++ (double body (SET-UP-BYTES + 8 * n) ∷ [])
+addressList body (suc n) = addressList body n ++ (leAt 8 (SET-UP-BYTES + 8 * n) body ∷ [])
 
 abbrev pub addressesIn : List ℕ → ℕ → List ℕ
 addressesIn body n = addressList body n ++ drop n (replicate RINGS 0)
@@ -58,12 +51,12 @@ interruptsOf asked kind = pick (eqb asked 0) Off (Kind kind)
 -- the set-up: map length, receive queues, send queues, W, interrupts asked and their kind, throttle rate, and the addresses
 unfoldable pub opened : List ℕ → Begun
 opened body =
-    begun (double body 0) (word body 8) (word body 12) (word body 16) (interruptsOf (word body 20) (double body 24)) (word body 32)
+    begun (leAt 8 0 body) (leAt 4 8 body) (leAt 4 12 body) (leAt 4 16 body) (interruptsOf (leAt 4 20 body) (leAt 8 24 body)) (leAt 4 32 body)
     (addressList body (addressCount body))
 
 -- is every action shown?
 abbrev pub shownBy : List ℕ → Bool
-shownBy body = not (eqb (word body 36) 0)
+shownBy body = not (eqb (leAt 4 36 body) 0)
 
 -- ---- a tally
 

@@ -4,7 +4,7 @@ ghost use mathlib.Core.Path.{_≡_};
 ghost use Prim.Native.Nat.{_+_, _*_, _≤_, _<_};
 ghost use lib.ListN.{length};
 ghost use Rattle.plan.specs.Sequence.{RINGS};
-ghost use Rattle.tape.specs.Tape.{word, double, recordOf, SET-UP-BYTES, addressCount, addressesIn, interruptsOf, opened, shownBy, mixed, tallied};
+ghost use Rattle.tape.specs.Tape.{recordOf, SET-UP-BYTES, addressCount, addressesIn, interruptsOf, opened, shownBy, mixed, tallied};
 use plan::Interrupts;
 use startup::Action;
 use startup::Begun;
@@ -32,31 +32,6 @@ pub struct Tally {
     pub digest: u64,
 }
 
-// ---- numbers in bytes, little-endian
-
-fn wide(x: u8) -> u32
-    ensures { λ r. ⌜ (r ≡ x) × (r < 256) ⌝ }
-{
-    x as u32
-}
-
-pub fn word_at(b: &[u8], at: usize) -> u32
-    requires { ⌜ at + 4 ≤ length (now b) ⌝ }
-    ensures { λ r. ⌜ r ≡ word (now (b .entry)) at ⌝ }
-{
-    wide(b[at])
-        + 0x100 * wide(b[at + 1])
-        + 0x1_0000 * wide(b[at + 2])
-        + 0x100_0000 * wide(b[at + 3])
-}
-
-fn double_at(b: &[u8], at: usize) -> u64
-    requires { ⌜ at + 8 ≤ length (now b) ⌝ }
-    ensures { λ r. ⌜ r ≡ double (now (b .entry)) at ⌝ }
-{
-    word_at(b, at) as u64 + 0x1_0000_0000 * (word_at(b, at + 4) as u64)
-}
-
 // ---- a record
 
 // What a record of a kind is, by its body.
@@ -76,7 +51,7 @@ pub fn read_record(kind: u32, body: &[u8]) -> Record
         if body.len() != 8 {
             return Record::Bad;
         }
-        return Record::Values(word_at(body, 0), word_at(body, 4));
+        return Record::Values(words::read32(body, 0), words::read32(body, 4));
     }
     Record::Bad
 }
@@ -103,7 +78,7 @@ fn addresses(body: &[u8], count: usize) -> [u64; plan::RINGS]
     let mut rings = [0; plan::RINGS];
     let mut i = 0;
     while i < count {
-        rings[i] = double_at(body, SET_UP_BYTES + 8 * i);
+        rings[i] = words::read64(body, SET_UP_BYTES + 8 * i);
         i += 1;
     }
     rings
@@ -127,12 +102,12 @@ pub fn open(body: &[u8]) -> Begun
     let count = address_count(body);
     let rings = addresses(body, count);
     startup::set_up(
-        double_at(body, 0),
-        word_at(body, 8) as usize,
-        word_at(body, 12) as usize,
-        word_at(body, 16) as usize,
-        interrupts(word_at(body, 20), double_at(body, 24)),
-        word_at(body, 32),
+        words::read64(body, 0),
+        words::read32(body, 8) as usize,
+        words::read32(body, 12) as usize,
+        words::read32(body, 16) as usize,
+        interrupts(words::read32(body, 20), words::read64(body, 24)),
+        words::read32(body, 32),
         &rings[..count],
     )
 }
@@ -142,7 +117,7 @@ pub fn shows(body: &[u8]) -> bool
     requires { ⌜ SET-UP-BYTES ≤ length (now body) ⌝ }
     ensures { λ r. ⌜ r ≡ shownBy (now (body .entry)) ⌝ }
 {
-    word_at(body, 36) != 0
+    words::read32(body, 36) != 0
 }
 
 // ---- a tally

@@ -17,14 +17,14 @@ abbrev μ-loop : tie.MeasureT-loop
 loop-holds : tie.Need-loop-holds Inv-loop μ-loop
 loop-holds c = (refl, omega arith)
 
-mul-double-at : tie.Need-mul-double-at Inv-loop μ-loop
-mul-double-at c = search needs
+mul-read64 : tie.Need-mul-read64 Inv-loop μ-loop
+mul-read64 c = search needs
 
-add-double-at : tie.Need-add-double-at Inv-loop μ-loop
-add-double-at c = search needs
+add-read64 : tie.Need-add-read64 Inv-loop μ-loop
+add-read64 c = search needs
 
-double-at-requires : tie.Need-double-at-requires Inv-loop μ-loop
-double-at-requires c κs = omega arith
+read64-requires : tie.Need-read64-requires Inv-loop μ-loop
+read64-requires c κs = omega arith
 
 mul-rings : tie.Need-mul-rings Inv-loop μ-loop
 mul-rings c = search needs
@@ -39,7 +39,7 @@ loop-less : tie.Need-loop-less Inv-loop μ-loop
 loop-less c = omega arith
 
 loop-again : tie.Need-loop-again Inv-loop μ-loop
-loop-again c = (rw (c .before .before .loop .inv .0, c .double-at .ensures) (one-more (c .before .before .before .before .args .body .now) (c .before .before .loop .i) (omega arith)), omega arith)
+loop-again c = (rw (c .before .before .loop .inv .0, c .read64 .ensures) (one-more (c .before .before .before .before .args .body .now) (c .before .before .loop .i) (omega arith)), omega arith)
 
 returns : tie.Need-returns Inv-loop μ-loop
 returns c = let e : c .before .loop .i ≡ c .before .before .before .args .count = omega arith in rw (← e) (c .before .loop .inv .0)
@@ -51,9 +51,9 @@ addresses-spec =
     Inv-loop
     μ-loop
     loop-holds
-    mul-double-at
-    add-double-at
-    double-at-requires
+    mul-read64
+    add-read64
+    read64-requires
     mul-rings
     array-write-rings
     add-i

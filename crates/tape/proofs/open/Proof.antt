@@ -13,38 +13,38 @@ address-count-requires c κs = search needs
 addresses-requires : tie.Need-addresses-requires
 addresses-requires c κs = rw (c .address-count .ensures) (count-fits _ (c .before .before .pre))
 
-double-at-requires : tie.Need-double-at-requires
-double-at-requires c κs = search needs
+read64-requires : tie.Need-read64-requires
+read64-requires c κs = search needs
 
-word-at-requires : tie.Need-word-at-requires
-word-at-requires c κs = search needs
+read32-requires : tie.Need-read32-requires
+read32-requires c κs = search needs
 
 cast-set-up : tie.Need-cast-set-up
 cast-set-up c = search needs
 
-word-at-requires-2 : tie.Need-word-at-requires-2
-word-at-requires-2 c κs = search needs
+read32-requires-2 : tie.Need-read32-requires-2
+read32-requires-2 c κs = search needs
 
 cast-set-up-2 : tie.Need-cast-set-up-2
 cast-set-up-2 c = search needs
 
-word-at-requires-3 : tie.Need-word-at-requires-3
-word-at-requires-3 c κs = search needs
+read32-requires-3 : tie.Need-read32-requires-3
+read32-requires-3 c κs = search needs
 
 cast-set-up-3 : tie.Need-cast-set-up-3
 cast-set-up-3 c = search needs
 
-word-at-requires-4 : tie.Need-word-at-requires-4
-word-at-requires-4 c κs = search needs
+read32-requires-4 : tie.Need-read32-requires-4
+read32-requires-4 c κs = search needs
 
-double-at-requires-2 : tie.Need-double-at-requires-2
-double-at-requires-2 c κs = search needs
+read64-requires-2 : tie.Need-read64-requires-2
+read64-requires-2 c κs = search needs
 
 interrupts-requires : tie.Need-interrupts-requires
 interrupts-requires c κs = search needs
 
-word-at-requires-5 : tie.Need-word-at-requires-5
-word-at-requires-5 c κs = search needs
+read32-requires-5 : tie.Need-read32-requires-5
+read32-requires-5 c κs = search needs
 
 array-share-prefix-rings : tie.Need-array-share-prefix-rings
 array-share-prefix-rings c = rw (c .before .before .before .before .before .before .before .before .addresses .ensures) (part-fits _ _)
@@ -58,7 +58,7 @@ set-up-requires c κs = search needs
 returns : tie.Need-returns
 unfolding opened
 returns c =
-    c .set-up .ensures ∙ rw (c .before .before .before .before .before .before .before .before .before .before .addresses .ensures, c .before .before .before .before .before .before .before .before .before .before .before .address-count .ensures, c .before .before .before .interrupts .ensures, c .before .before .before .before .before .before .before .before .before .double-at .ensures, c .before .before .before .before .before .before .before .before .word-at .ensures, c .before .before .before .before .before .before .before .word-at2 .ensures, c .before .before .before .before .before .before .word-at3 .ensures, c .before .before .before .before .before .word-at4 .ensures, c .before .before .before .before .double-at2 .ensures, c .before .before .word-at5 .ensures) (opened-is (c .before .before .before .before .before .before .before .before .before .before .before .before .before .args .body .now))
+    c .set-up .ensures ∙ rw (c .before .before .before .before .before .before .before .before .before .before .addresses .ensures, c .before .before .before .before .before .before .before .before .before .before .before .address-count .ensures, c .before .before .before .interrupts .ensures, c .before .before .before .before .before .before .before .before .before .read64 .ensures, c .before .before .before .before .before .before .before .before .read32 .ensures, c .before .before .before .before .before .before .before .read322 .ensures, c .before .before .before .before .before .before .read323 .ensures, c .before .before .before .before .before .read324 .ensures, c .before .before .before .before .read642 .ensures, c .before .before .read325 .ensures) (opened-is (c .before .before .before .before .before .before .before .before .before .before .before .before .before .args .body .now))
 
 pub open-spec : {M : Type 1} → statement M
 open-spec =
@@ -66,17 +66,17 @@ open-spec =
     (tie.spec
     address-count-requires
     addresses-requires
-    double-at-requires
-    word-at-requires
+    read64-requires
+    read32-requires
     cast-set-up
-    word-at-requires-2
+    read32-requires-2
     cast-set-up-2
-    word-at-requires-3
+    read32-requires-3
     cast-set-up-3
-    word-at-requires-4
-    double-at-requires-2
+    read32-requires-4
+    read64-requires-2
     interrupts-requires
-    word-at-requires-5
+    read32-requires-5
     array-share-prefix-rings
     slice-aggregate-set-up
     set-up-requires

@@ -24,15 +24,15 @@ returns-4 : tie.Need-returns-4
 unfolding recordOf
 returns-4 c = simp (ne-eqb _ _ (c .before .before .if1 .left), eq-eqb _ _ (c .before .if4 .taken), ne-eqb _ _ (c .if5 .taken))
 
-word-at-requires : tie.Need-word-at-requires
-word-at-requires c κs = search needs
+read32-requires : tie.Need-read32-requires
+read32-requires c κs = search needs
 
-word-at-requires-2 : tie.Need-word-at-requires-2
-word-at-requires-2 c κs = search needs
+read32-requires-2 : tie.Need-read32-requires-2
+read32-requires-2 c κs = search needs
 
 returns-5 : tie.Need-returns-5
 unfolding recordOf
-returns-5 c = rw (c .word-at2 .ensures, c .before .word-at .ensures) (simp (ne-eqb _ _ (c .before .before .before .before .if1 .left), eq-eqb _ _ (c .before .before .before .if4 .taken), eq-eqb _ _ (c .before .before .if5 .left)))
+returns-5 c = rw (c .read322 .ensures, c .before .read32 .ensures) (simp (ne-eqb _ _ (c .before .before .before .before .if1 .left), eq-eqb _ _ (c .before .before .before .if4 .taken), eq-eqb _ _ (c .before .before .if5 .left)))
 
 returns-6 : tie.Need-returns-6
 unfolding recordOf
@@ -47,7 +47,7 @@ read-record-spec =
     returns-2
     returns-3
     returns-4
-    word-at-requires
-    word-at-requires-2
+    read32-requires
+    read32-requires-2
     returns-5
     returns-6)
