@@ -1,6 +1,6 @@
 // Serves a stream of the bench's records: reads it from standard input, and prints a line for each record. Document 01, "The bench program".
 // What the bytes of a record mean, and what the card's records do to the rings, stands in `records`; what a record answers and leaves stands in
-// `stream`. Here it is only read, asked and printed.
+// `tally` and `stream`. Here it is only read, asked and printed.
 ghost use mathlib.Core.Path.{_≡_};
 ghost use mathlib.Core.Bool.{true};
 ghost use Prim.Native.Nat.{_+_, _≤_};
@@ -16,7 +16,7 @@ use limits::ENTRIES;
 use limits::SMALLEST_SIZE;
 use records::Record;
 use rules::Account;
-use stream::Tally;
+use tally::Tally;
 
 // The bytes of the input that are held at once, and the most that a record has.
 const INPUT: usize = 0x2_0000;
@@ -230,7 +230,7 @@ fn way_of(what: Record, open: bool, sends: usize) -> Way {
 fn stand_in() -> Account
     ensures { λ r. ⌜ sound r ≡ true ⌝ }
 {
-    let first = stream::fresh(1, SMALLEST_SIZE, 0);
+    let first = tally::fresh(1, SMALLEST_SIZE, 0);
     first.account
 }
 
@@ -295,7 +295,7 @@ fn serve_on(
                 break;
             }
             Way::Fresh => {
-                let answer = stream::fresh_from(what);
+                let answer = tally::fresh_from(what);
                 number = answer.number;
                 tally = answer.tally;
                 if number == 0 {

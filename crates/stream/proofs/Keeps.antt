@@ -1,55 +1,38 @@
--- A record leaves a sound account sound; a taken id and the count of a receive are in their ranges.
-use Prim.Native.Nat.{ℕ, _≤_, _<_}
+-- A start, a receive and a send leave a sound account sound; the count of a receive is in its range. What a take and a release leave stands in
+-- `tally`.
+use Prim.Native.Nat.{ℕ, _≤_}
 use mathlib.Core.Path.{_≡_}
 use mathlib.Core.Bool.{Bool, true, false}
 use mathlib.Core.List.{List}
 use lib.Dec.{ltb}
 use native.Mathlib.Nat.{zero-add}
 use native.Mathlib.Omega.{arith}
-use borrow.Author.Tests.{ltb-true}
-use Rattle.limits.specs.Limits.{ENTRIES, SLOTS}
+use Rattle.limits.specs.Limits.{SLOTS}
 use Rattle.laws.specs.Test.{pick}
-use Rattle.pool.specs.declared.Handle.{Handle}
 use Rattle.rules.specs.declared.Account.{Account}
 use Rattle.rules.specs.declared.Verdict.the-variants.{Done}
-use Rattle.rules.specs.declared.Taken.{Taken}
 use Rattle.rules.specs.Handles.{Handles}
 use Rattle.rules.specs.Sound.{sound, Full}
-use Rattle.rules.specs.Refusals.{takeVerdict, receiveVerdict}
-use Rattle.rules.specs.Packets.{takeCall, releaseCall}
+use Rattle.rules.specs.Refusals.{receiveVerdict}
 use Rattle.rules.specs.Receive.{startCall, AfterReceive, receiving, receiveCall}
 use Rattle.rules.specs.Send.{sendCall}
-use Rattle.rules.proofs.Facts.{bounds, top-known}
 use Rattle.rules.proofs.Sound.{sound-means, means-sound}
-use Rattle.rules.proofs.Verdicts.{not-done, verdict-holds}
+use Rattle.rules.proofs.Verdicts.{verdict-holds}
 use Rattle.rules.proofs.Receive.{Ready, ready-turn, receive-holds}
-use Rattle.rules.proofs.Calls.{take-done, take-keeps, release-keeps, start-keeps, receive-keeps, send-keeps-account}
+use Rattle.rules.proofs.Calls.{start-keeps, receive-keeps, send-keeps-account}
 use Rattle.receiving.proofs.Laws.{receivable}
-use Rattle.stream.specs.Bench.{Memory, lastHandle, answeredAs, startAnswer, takeAnswer, releaseAnswer, receiveAnswer, sendAnswered, ringOf, sendFrom, sendAnswer}
+use Rattle.tally.specs.Tally.{Memory, answeredAs}
+use Rattle.stream.specs.Bench.{startAnswer, receiveAnswer, sendAnswered, ringOf, sendFrom, sendAnswer}
 
 module _ {a : Account} (full : Full a) (e : sound a ≡ true) where
   pub start-stays : (rx addresses : List ℕ) → sound (startCall a 0 rx addresses .answer .account) ≡ true
   start-stays rx addresses = means-sound _ (start-keeps full (sound-means a e) 0 rx addresses .1)
-
-  pub take-stays : (size : ℕ) → sound (takeCall a size .account) ≡ true
-  take-stays size = means-sound _ (take-keeps full (sound-means a e) size .1)
-
-  pub release-stays : (h : Handle) → sound (releaseCall a h .account) ≡ true
-  release-stays h = means-sound _ (release-keeps full (sound-means a e) h .1)
 
   pub receive-stays : (n : ℕ) (rx addresses : List ℕ) (lists : Handles) → sound (receiveCall a 0 rx addresses n lists .answer .account) ≡ true
   receive-stays n rx addresses lists = means-sound _ (receive-keeps full (sound-means a e) 0 rx addresses n lists .1)
 
   pub send-stays : (queue : ℕ) (ring addresses : List ℕ) (lists : Handles) → sound (sendCall a queue ring addresses lists .answer .account) ≡ true
   send-stays queue ring addresses lists = means-sound _ (send-keeps-account full (sound-means a e) queue ring addresses lists .1)
-
-  -- a taken id is an entry's
-  pub taken-known : (size : ℕ) → takeCall a size .verdict ≡ Done → takeCall a size .handle .id < ENTRIES
-  unfolding takeCall
-  taken-known size =
-      verdict-holds (λ (r : Taken). r .verdict ≡ Done → r .handle .id < ENTRIES) (takeVerdict a size) _ _
-      (λ done d. omega (arith, bounds a e, top-known a e full (ltb-true 0 _ (take-done a size done .2)) .0))
-      (λ why refused d. absurd (not-done why d))
 
   -- a receive takes no more than a ring has: a slot taken reads not done
   pub received-few : (n : ℕ) (rx addresses : List ℕ) (lists : Handles) → receiveCall a 0 rx addresses n lists .answer .count ≤ SLOTS
@@ -71,14 +54,6 @@ module _ {a : Account} (full : Full a) (e : sound a ≡ true) where
   pub start-answer : (rx addresses : List ℕ) → sound (startAnswer a rx addresses .answer .account) ≡ true
   unfolding startAnswer
   start-answer = start-stays
-
-  pub take-answer : (size : ℕ) (m : Memory) → sound (takeAnswer a size m .answer .account) ≡ true
-  unfolding takeAnswer
-  take-answer size m = take-stays size
-
-  pub release-answer : (id : ℕ) (m : Memory) → sound (releaseAnswer a id m .account) ≡ true
-  unfolding releaseAnswer
-  release-answer id m = release-stays (lastHandle m id)
 
   pub receive-answer : (n : ℕ) (rx addresses : List ℕ) (lists : Handles) (m : Memory) → sound (receiveAnswer a n rx addresses lists m .answer .account) ≡ true
   unfolding receiveAnswer

@@ -1,4 +1,3 @@
 pub mod Memory
 pub mod Sized
 pub mod Keeps
-pub mod Counts

@@ -9,7 +9,8 @@ use native.Mathlib.Omega.{arith}
 use Rattle.limits.specs.Limits.{ENTRIES}
 use Rattle.laws.specs.Occurs.{upFrom}
 use Rattle.rules.specs.Handles.{Handles, handles, putHandle, Room}
-use Rattle.stream.specs.Bench.{POOL, Memory, lastHandle, idAt, sendLists, remembered, rememberAll}
+use Rattle.tally.specs.Tally.{POOL, Memory, lastHandle, remembered}
+use Rattle.stream.specs.Bench.{idAt, sendLists, rememberAll}
 
 -- ---- remembering
 

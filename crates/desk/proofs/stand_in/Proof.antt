@@ -4,7 +4,7 @@ use Rattle.rules.specs.Packets.{freshCall}
 use Rattle.rules.specs.Sound.{isSize, inRange}
 use Rattle.rules.specs.Refusals.{freshVerdict}
 use Rattle.laws.specs.Test.{some}
-use Rattle.stream.specs.Bench.{freshAnswer}
+use Rattle.tally.specs.Tally.{freshAnswer}
 use borrow.Author.Needs.{needs}
 use Rattle.desk.proofs.stand_in.Statement.{statement}
 use Rattle.desk.proofs.stand_in.Tie as tie

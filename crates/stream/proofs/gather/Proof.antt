@@ -5,7 +5,8 @@ use native.Mathlib.Omega.{arith}
 use lib.ListN.{length, length-set}
 use Rattle.rules.specs.Handles.{handles}
 use Rattle.laws.specs.Occurs.{upFrom}
-use Rattle.stream.specs.Bench.{memoryAs, sendLists}
+use Rattle.tally.specs.Tally.{memoryAs}
+use Rattle.stream.specs.Bench.{sendLists}
 use Rattle.stream.proofs.Memory.{firsts, gather-one}
 use borrow.Author.Needs.{needs}
 use Rattle.stream.proofs.gather.Statement.{statement}

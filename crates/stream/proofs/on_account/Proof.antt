@@ -8,9 +8,11 @@ use Rattle.rules.specs.Handles.{handles, Room}
 use Rattle.rules.specs.Sound.{Full}
 use Rattle.rules.proofs.Facts.{bounds}
 use Rattle.records.specs.Records.{MOST}
-use Rattle.stream.specs.Bench.{StartLeft, TakeLeft, ReceiveLeft, SendLeft}
+use Rattle.tally.specs.Tally.{TakeLeft}
+use Rattle.tally.proofs.Keeps.{take-answer, release-answer}
+use Rattle.stream.specs.Bench.{StartLeft, ReceiveLeft, SendLeft}
 use Rattle.stream.proofs.Sized.{send-sized}
-use Rattle.stream.proofs.Keeps.{start-answer, take-answer, release-answer, receive-answer, send-answer}
+use Rattle.stream.proofs.Keeps.{start-answer, receive-answer, send-answer}
 use borrow.Author.Needs.{needs}
 use Rattle.stream.proofs.on_account.Statement.{statement}
 use Rattle.stream.proofs.on_account.Tie as tie

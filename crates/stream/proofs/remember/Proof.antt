@@ -4,7 +4,7 @@ use mathlib.Core.Path.{sym, _∙_}
 use mathlib.Core.Logic.{⊎-elim}
 use native.Mathlib.Nat.{sub-zero}
 use native.Mathlib.Omega.{arith}
-use Rattle.stream.specs.Bench.{memoryAs}
+use Rattle.tally.specs.Tally.{memoryAs}
 use Rattle.stream.proofs.Memory.{Remembering, remember-one, remember-none, remember-end}
 use borrow.Author.Needs.{needs}
 use Rattle.stream.proofs.remember.Statement.{statement}

@@ -1,7 +1,7 @@
--- `stream::fresh_from` meets its contract: each record by its name. Assumes nothing.
+-- `tally::fresh_from` meets its contract: each record by its name. Assumes nothing.
 use borrow.Author.Needs.{needs}
-use Rattle.stream.proofs.fresh_from.Statement.{statement}
-use Rattle.stream.proofs.fresh_from.Tie as tie
+use Rattle.tally.proofs.fresh_from.Statement.{statement}
+use Rattle.tally.proofs.fresh_from.Tie as tie
 
 enum-known-what : tie.Need-enum-known-what
 enum-known-what c = search needs

@@ -24,7 +24,7 @@ use Rattle.rules.specs.Refusals.{countsVerdict}
 use Rattle.rules.specs.Packets.{countsCall}
 use Rattle.rules.proofs.Lists.{list-free, list-receive, list-send, list-beyond, length-around}
 use Rattle.rules.proofs.Sound.{means-sound}
-use Rattle.stream.specs.Bench.{pendingOf, receiveOf, tallyOf}
+use Rattle.tally.specs.Tally.{pendingOf, receiveOf, tallyOf}
 
 -- ---- sums
 

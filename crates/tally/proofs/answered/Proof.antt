@@ -1,7 +1,7 @@
--- `stream::answered` meets its contract: the tally is counted. Assumes nothing.
+-- `tally::answered` meets its contract: the tally is counted. Assumes nothing.
 use borrow.Author.Needs.{needs}
-use Rattle.stream.proofs.answered.Statement.{statement}
-use Rattle.stream.proofs.answered.Tie as tie
+use Rattle.tally.proofs.answered.Statement.{statement}
+use Rattle.tally.proofs.answered.Tie as tie
 
 counted-requires : tie.Need-counted-requires
 counted-requires c κs = search needs

@@ -1,4 +1,4 @@
--- `stream::fresh` meets its contract: a fresh account is sound, and a refused one has nothing in any hand. Assumes nothing.
+-- `tally::fresh` meets its contract: a fresh account is sound, and a refused one has nothing in any hand. Assumes nothing.
 use Prim.Native.Nat.{ℕ}
 use mathlib.Core.Path.{_≡_, refl, sym, _∙_}
 use mathlib.Core.Bool.{true}
@@ -14,10 +14,10 @@ use Rattle.rules.proofs.Sound.{means-sound}
 use Rattle.rules.proofs.Verdicts.{not-done, verdict-holds}
 use Rattle.rules.proofs.Calls.{fresh-whole}
 use Rattle.calls.proofs.Parts.{not-zero}
-use Rattle.stream.specs.Bench.{POOL, pendingOf, tallyOf, freshAnswer}
+use Rattle.tally.specs.Tally.{POOL, pendingOf, tallyOf, freshAnswer}
 use borrow.Author.Needs.{needs}
-use Rattle.stream.proofs.fresh.Statement.{statement}
-use Rattle.stream.proofs.fresh.Tie as tie
+use Rattle.tally.proofs.fresh.Statement.{statement}
+use Rattle.tally.proofs.fresh.Tie as tie
 
 fresh-requires : tie.Need-fresh-requires
 fresh-requires c κs = search needs

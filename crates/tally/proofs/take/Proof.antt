@@ -1,15 +1,15 @@
--- `stream::take` meets its contract: the taken handle is remembered, and the account is sound. Assumes nothing.
+-- `tally::take` meets its contract: the taken handle is remembered, and the account is sound. Assumes nothing.
 use Prim.Native.Nat.{_<_}
 use mathlib.Core.Path.{_≡_}
 use mathlib.Core.Bool.{true}
 use native.Mathlib.Omega.{arith}
 use Rattle.limits.specs.Limits.{ENTRIES}
 use Rattle.rules.specs.Sound.{sound, Full}
-use Rattle.stream.specs.Bench.{takeAnswer}
-use Rattle.stream.proofs.Keeps.{take-stays, taken-known}
+use Rattle.tally.specs.Tally.{takeAnswer}
+use Rattle.tally.proofs.Keeps.{take-stays, taken-known}
 use borrow.Author.Needs.{needs}
-use Rattle.stream.proofs.take.Statement.{statement}
-use Rattle.stream.proofs.take.Tie as tie
+use Rattle.tally.proofs.take.Statement.{statement}
+use Rattle.tally.proofs.take.Tie as tie
 
 take-requires : tie.Need-take-requires
 take-requires c κs = search needs

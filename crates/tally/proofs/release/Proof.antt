@@ -1,10 +1,10 @@
--- `stream::release` meets its contract: by the last handle, and the account is sound. Assumes nothing.
+-- `tally::release` meets its contract: by the last handle, and the account is sound. Assumes nothing.
 use Rattle.rules.specs.Sound.{Full}
-use Rattle.stream.specs.Bench.{releaseAnswer}
-use Rattle.stream.proofs.Keeps.{release-stays}
+use Rattle.tally.specs.Tally.{releaseAnswer}
+use Rattle.tally.proofs.Keeps.{release-stays}
 use borrow.Author.Needs.{needs}
-use Rattle.stream.proofs.release.Statement.{statement}
-use Rattle.stream.proofs.release.Tie as tie
+use Rattle.tally.proofs.release.Statement.{statement}
+use Rattle.tally.proofs.release.Tie as tie
 
 last-handle-requires : tie.Need-last-handle-requires
 last-handle-requires c κs = search needs

@@ -1,4 +1,4 @@
--- `stream::all_pending` meets its contract: the sum over the queues passed, each below a ring. Assumes nothing.
+-- `tally::all_pending` meets its contract: the sum over the queues passed, each below a ring. Assumes nothing.
 use Prim.Native.Nat.{_-_, _*_, _≤_}
 use mathlib.Core.Path.{_≡_, refl}
 use native.Mathlib.Numerals.{add-one}
@@ -6,10 +6,10 @@ use native.Mathlib.Omega.{arith}
 use Rattle.limits.specs.Limits.{SLOTS}
 use Rattle.laws.specs.Occurs.{sumTo}
 use Rattle.rules.proofs.Sound.{queues-mean}
-use Rattle.stream.specs.Bench.{pendingOf}
+use Rattle.tally.specs.Tally.{pendingOf}
 use borrow.Author.Needs.{needs}
-use Rattle.stream.proofs.all_pending.Statement.{statement}
-use Rattle.stream.proofs.all_pending.Tie as tie
+use Rattle.tally.proofs.all_pending.Statement.{statement}
+use Rattle.tally.proofs.all_pending.Tie as tie
 
 abbrev Inv-loop : tie.InvT-loop
 Inv-loop sends clean tx all₀ q₀ all q = (q ≤ sends) × (all ≡ pendingOf q clean tx) × (all ≤ q * SLOTS)

@@ -1,9 +1,9 @@
--- `stream::last_handle` meets its contract: an id beyond the lists has nothing remembered. Assumes nothing.
+-- `tally::last_handle` meets its contract: an id beyond the lists has nothing remembered. Assumes nothing.
 use lib.ListN.{List·getD-eq-default}
 use native.Mathlib.Omega.{arith}
 use borrow.Author.Needs.{needs}
-use Rattle.stream.proofs.last_handle.Statement.{statement}
-use Rattle.stream.proofs.last_handle.Tie as tie
+use Rattle.tally.proofs.last_handle.Statement.{statement}
+use Rattle.tally.proofs.last_handle.Tie as tie
 
 mul-t6 : tie.Need-mul-t6
 mul-t6 c = search needs

@@ -1,15 +1,15 @@
--- `stream::counted` meets its contract: the lists have no more than there are entries. Assumes nothing.
+-- `tally::counted` meets its contract: the lists have no more than there are entries. Assumes nothing.
 use Prim.Native.Nat.{_+_, _≤_}
 use native.Mathlib.Omega.{arith}
 use Rattle.limits.specs.Limits.{ENTRIES}
 use Rattle.laws.proofs.Test.{every-all}
 use Rattle.rules.specs.Sound.{queuesPlaced, Full}
 use Rattle.rules.proofs.Sound.{sound-means, means-indices}
-use Rattle.stream.specs.Bench.{pendingOf, receiveOf, tallyOf}
-use Rattle.stream.proofs.Counts.{all-hands}
+use Rattle.tally.specs.Tally.{pendingOf, receiveOf, tallyOf}
+use Rattle.tally.proofs.Counts.{all-hands}
 use borrow.Author.Needs.{needs}
-use Rattle.stream.proofs.counted.Statement.{statement}
-use Rattle.stream.proofs.counted.Tie as tie
+use Rattle.tally.proofs.counted.Statement.{statement}
+use Rattle.tally.proofs.counted.Tie as tie
 
 all-pending-requires : tie.Need-all-pending-requires
 unfolding queuesPlaced
