@@ -120,7 +120,7 @@ pub fn batch(
             account,
         };
     }
-    packets::batch(account, n, len, pools, ids, offsets, lengths)
+    batches::batch(account, n, len, pools, ids, offsets, lengths)
 }
 
 // A packet's buffer is free again.

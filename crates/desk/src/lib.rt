@@ -14,7 +14,7 @@ use libc::STDIN_FILENO;
 use libc::STDOUT_FILENO;
 use limits::ENTRIES;
 use limits::SMALLEST_SIZE;
-use records::Record;
+use records::Way;
 use rules::Account;
 use tally::Tally;
 
@@ -27,14 +27,6 @@ const RECORD: usize = 0x1_0001;
 const OUTPUT: usize = 0x1_0000;
 
 const LINE: usize = 168;
-
-// What is to be done with a record.
-enum Way {
-    Bad,
-    Fresh,
-    Card,
-    Account,
-}
 
 // Where the input stands: the unread bytes of the buffer, how many were read, and how many may still be.
 struct Input {
@@ -209,23 +201,6 @@ fn put_bad(out: &mut [u8], from: usize, record: u64) -> usize
 
 // ---- records
 
-// What is to be done with a record, once there is an account or before.
-fn way_of(what: Record, open: bool, sends: usize) -> Way {
-    if !open {
-        if records::kind(what) == 1 {
-            return Way::Fresh;
-        }
-        return Way::Bad;
-    }
-    if !records::is_allowed(what, sends) {
-        return Way::Bad;
-    }
-    if records::is_card(what) {
-        return Way::Card;
-    }
-    Way::Account
-}
-
 // A sound account, to stand there until a fresh one answers 0.
 fn stand_in() -> Account
     ensures { λ r. ⌜ sound r ≡ true ⌝ }
@@ -286,7 +261,7 @@ fn serve_on(
         }
         let start = from + 2;
         let what = records::decode(&buffer[start..end]);
-        let way = way_of(what, open, account.sends);
+        let way = records::way_of(what, open, account.sends);
         let mut number = 0;
         let mut value = 0;
         match way {

@@ -1,5 +1,5 @@
-// The calls on packets, for an account that is known to be sound: they make every test but that one. Ported from src/memory.rs.
-// Beside each stands its verdict. The calls of crate `calls` make the soundness test first, and then call these.
+// The calls on one packet and the counts, for an account that is known to be sound: they make every test but that one. Ported from src/memory.rs.
+// Beside each stands its verdict. The calls of crate `calls` make the soundness test first, and then call these. A batch is in crate `batches`.
 ghost use mathlib.Core.Path.{_≡_};
 ghost use mathlib.Core.Bool.{true};
 ghost use Prim.Native.Nat.{_≤_, _<_};
@@ -8,12 +8,11 @@ ghost use Rattle.limits.specs.Limits.{ENTRIES, SLOTS};
 ghost use Rattle.laws.specs.Occurs.{occurs, upFrom};
 ghost use Rattle.pool.specs.Stack.{top};
 ghost use Rattle.pool.specs.Hands.{HAND-OUT};
-ghost use Rattle.rules.specs.Handles.{handles, Room, noHandle};
+ghost use Rattle.rules.specs.Handles.{noHandle};
 ghost use Rattle.rules.specs.Account.{waiting, opened, withPool};
 ghost use Rattle.rules.specs.Sound.{isGood, queuesPlaced, sound};
-ghost use Rattle.rules.specs.Refusals.{takeVerdict, batchOf, handleVerdict};
-ghost use Rattle.rules.specs.Packets.{packetOf, taken, takeCall, takeMany, taking, batched, batchCall, countsOf, countsCall, released, releaseCall, shortened, truncateCall};
-ghost use Rattle.packets.specs.Takable.{Takable};
+ghost use Rattle.rules.specs.Refusals.{takeVerdict, handleVerdict};
+ghost use Rattle.rules.specs.Packets.{packetOf, taken, takeCall, countsOf, countsCall, released, releaseCall, shortened, truncateCall};
 use limits::ENTRIES;
 use limits::HEADROOM;
 use limits::SENDS;
@@ -23,7 +22,6 @@ use pool::HAND_FREE;
 use pool::HAND_OUT;
 use pool::Handle;
 use rules::Account;
-use rules::Batch;
 use rules::Counts;
 use rules::Kept;
 use rules::Refusal;
@@ -72,7 +70,7 @@ pub fn open(pool: u32, entries: usize, size: usize, receives: usize, sends: usiz
 // ---- one packet
 
 // The account with another free stack and other hands.
-fn with_pool(account: Account, free: FreeStack, hands: [u8; ENTRIES]) -> Account
+pub fn with_pool(account: Account, free: FreeStack, hands: [u8; ENTRIES]) -> Account
     ensures { λ r. ⌜ r ≡ withPool account free hands ⌝ }
 {
     let mut next = account;
@@ -242,100 +240,6 @@ fn shorten(handle: Handle, len: usize) -> Handle
         id: handle.id,
         offset: handle.offset,
         length: least as u16,
-    }
-}
-
-// ---- a batch
-
-// As many packets as asked for, off the top of the stack, into the lists. Answers the stack's new depth.
-fn take_many(
-    pool: u32,
-    len: u16,
-    most: usize,
-    stack: &[u16; ENTRIES],
-    depth: usize,
-    hands: &mut [u8; ENTRIES],
-    pools: &mut [u32],
-    ids: &mut [u16],
-    offsets: &mut [u16],
-    lengths: &mut [u16],
-) -> usize
-    requires { ⌜ Takable most (now stack) depth (handles (now pools) (now ids) (now offsets) (now lengths)) ⌝ }
-    ensures { λ r. ⌜ taking (now (stack .entry)) r (now (hands .exit)) (handles (now (pools .exit)) (now (ids .exit)) (now (offsets .exit)) (now (lengths .exit))) most ≡ takeMany pool len most (taking (now (stack .entry)) depth (now (hands .entry)) (handles (now (pools .entry)) (now (ids .entry)) (now (offsets .entry)) (now (lengths .entry))) 0) ⌝ }
-{
-    let mut left = depth;
-    for count in 0..most {
-        let top = left - 1;
-        let id = stack[top];
-        left = top;
-        hands[id as usize] = HAND_OUT;
-        let handle = Handle {
-            pool,
-            id,
-            offset: HEADROOM as u16,
-            length: len,
-        };
-        lists::put(pools, ids, offsets, lengths, count, handle);
-    }
-    left
-}
-
-// A batch of 0 takes one.
-fn batch_of(n: usize) -> usize
-    ensures { λ r. ⌜ r ≡ batchOf n ⌝ }
-{
-    if n == 0 { 1 } else { n }
-}
-
-// A batch of packets, as many as there are. An oversize batch takes none.
-pub fn batch(
-    account: Account,
-    n: usize,
-    len: usize,
-    pools: &mut [u32],
-    ids: &mut [u16],
-    offsets: &mut [u16],
-    lengths: &mut [u16],
-) -> Batch
-    requires { ⌜ sound account ≡ true ⌝ }
-    ensures { λ r. ⌜ batched r (handles (now (pools .exit)) (now (ids .exit)) (now (offsets .exit)) (now (lengths .exit))) ≡ batchCall account n len (handles (now (pools .entry)) (now (ids .entry)) (now (offsets .entry)) (now (lengths .entry))) ⌝ }
-{
-    let asked = batch_of(n);
-    let room = lists::least(asked, account.entries);
-    if !lists::has_room(room, pools, ids, offsets, lengths) {
-        return Batch {
-            verdict: Verdict::Refused(Refusal::WrongSize),
-            count: 0,
-            account,
-        };
-    }
-    if account.size - HEADROOM < len {
-        return Batch {
-            verdict: Verdict::Done,
-            count: 0,
-            account,
-        };
-    }
-    let free = account.free;
-    let stack = free.ids;
-    let mut hands = account.hands;
-    let most = lists::least(asked, free.depth);
-    let depth = take_many(
-        account.pool,
-        len as u16,
-        most,
-        &stack,
-        free.depth,
-        &mut hands,
-        pools,
-        ids,
-        offsets,
-        lengths,
-    );
-    Batch {
-        verdict: Verdict::Done,
-        count: most,
-        account: with_pool(account, FreeStack { ids: stack, depth }, hands),
     }
 }
 

@@ -9,6 +9,8 @@ use Rattle.laws.specs.Test.{pick, both}
 use Rattle.words.specs.Le.{leAt}
 use Rattle.records.specs.declared.Record.{Record}
 use Rattle.records.specs.declared.Record.the-variants.{Fresh, Start, Take, Release, Done, Frame, Receive, Send, Bad}
+use Rattle.records.specs.declared.Way.{Way}
+use Rattle.records.specs.declared.Way.the-variants as way
 
 -- the most ids of a record, whose length is a u16
 abbrev pub MOST : ℕ
@@ -96,3 +98,11 @@ cardOf (Frame slot status len) = true
 cardOf (Receive n) = false
 cardOf (Send queue count) = false
 cardOf Bad = false
+
+-- what is done with a record: before a fresh has answered 0 only a fresh may come; after it a record that may come is the card's, on the rings,
+-- or one on the account
+unfoldable pub wayOf : Bool → ℕ → Record → Way
+wayOf begun queues r =
+    pick begun
+    (pick (allowed queues r) (pick (cardOf r) way.Card way.Account) way.Bad)
+    (pick (eqb (kindOf r) 1) way.Fresh way.Bad)

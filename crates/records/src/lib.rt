@@ -4,7 +4,7 @@ ghost use Prim.Native.Nat.{_<_};
 ghost use lib.ListN.{length};
 ghost use Rattle.limits.specs.Limits.{SENDS, SLOTS, RING-BYTES};
 ghost use Rattle.words.specs.Slots.{InRing};
-ghost use Rattle.records.specs.Records.{freshOf, startOf, takeOf, releaseOf, doneOf, frameOf, receiveOf, sendOf, recordOf, kindOf, allowed, cardOf};
+ghost use Rattle.records.specs.Records.{freshOf, startOf, takeOf, releaseOf, doneOf, frameOf, receiveOf, sendOf, recordOf, kindOf, allowed, cardOf, wayOf};
 ghost use Rattle.records.specs.Card.{SEND-BYTES, frameRule, doneRule, cardAs, cardRule};
 use limits::SENDS;
 use limits::SLOT_BYTES;
@@ -33,6 +33,14 @@ pub enum Record {
     // Queue and count.
     Send(usize, usize),
     Bad,
+}
+
+// What is done with a record: nothing, since it is bad; a fresh account; something on the rings; or a call on the account.
+pub enum Way {
+    Bad,
+    Fresh,
+    Card,
+    Account,
 }
 
 // ---- bytes: a record's kind and body
@@ -212,6 +220,25 @@ pub fn is_card(what: Record) -> bool
         Record::Send(_, _) => false,
         Record::Bad => false,
     }
+}
+
+// What is done with a record. Begun: a fresh account has answered 0, with so many send queues.
+pub fn way_of(what: Record, begun: bool, sends: usize) -> Way
+    ensures { λ r. ⌜ r ≡ wayOf begun sends what ⌝ }
+{
+    if !begun {
+        if kind(what) == 1 {
+            return Way::Fresh;
+        }
+        return Way::Bad;
+    }
+    if !is_allowed(what, sends) {
+        return Way::Bad;
+    }
+    if is_card(what) {
+        return Way::Card;
+    }
+    Way::Account
 }
 
 // ---- the card

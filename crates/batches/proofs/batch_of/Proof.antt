@@ -1,7 +1,7 @@
--- `packets::batch_of` meets its contract: each answer by the test that led there. Assumes nothing.
+-- `batches::batch_of` meets its contract: each answer by the test that led there. Assumes nothing.
 use borrow.Author.Tests.{eq-eqb, ne-eqb}
-use Rattle.packets.proofs.batch_of.Statement.{statement}
-use Rattle.packets.proofs.batch_of.Tie as tie
+use Rattle.batches.proofs.batch_of.Statement.{statement}
+use Rattle.batches.proofs.batch_of.Tie as tie
 
 returns : tie.Need-returns
 returns c = rw (eq-eqb _ 0 (c .if1 .taken))

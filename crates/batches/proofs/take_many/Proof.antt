@@ -1,4 +1,4 @@
--- `packets::take_many` meets its contract: what is left to take from here is what was to take at the start, and each turn takes one. The lists keep
+-- `batches::take_many` meets its contract: what is left to take from here is what was to take at the start, and each turn takes one. The lists keep
 -- their lengths, so they keep their room. Assumes nothing.
 use Prim.Native.Nat.{ℕ, suc, _+_, _-_, _≤_, _<_}
 use mathlib.Core.Path.{_≡_, refl, sym, _∙_}
@@ -9,8 +9,8 @@ use Rattle.limits.specs.Limits.{ENTRIES}
 use Rattle.rules.specs.Handles.{Handles, handles}
 use Rattle.rules.specs.Packets.{Taking, oneMore, takeMany, taking}
 use Rattle.rules.proofs.Packets.{many-none, many-more}
-use Rattle.packets.proofs.take_many.Statement.{statement}
-use Rattle.packets.proofs.take_many.Tie as tie
+use Rattle.batches.proofs.take_many.Statement.{statement}
+use Rattle.batches.proofs.take_many.Tie as tie
 
 -- the lists are as long as they were
 record Same (now before : Handles) : Type 0 where

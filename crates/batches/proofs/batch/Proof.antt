@@ -1,4 +1,4 @@
--- `packets::batch` meets its contract: refused, or nothing taken, by the tests that led there; else as many are taken as are asked for and free,
+-- `batches::batch` meets its contract: refused, or nothing taken, by the tests that led there; else as many are taken as are asked for and free,
 -- and the rule takes no more than there are. Each place of a sound account's stack has an id of the account. Assumes nothing.
 use Prim.Native.Nat.{ℕ, _<_, min}
 use mathlib.Core.Path.{_≡_, sym, ap, _∙_}
@@ -20,8 +20,8 @@ use Rattle.rules.proofs.Facts.{bounds}
 use Rattle.rules.proofs.Verdicts.{room-means}
 use Rattle.rules.proofs.Packets.{many-min}
 use borrow.Author.Needs.{needs}
-use Rattle.packets.proofs.batch.Statement.{statement}
-use Rattle.packets.proofs.batch.Tie as tie
+use Rattle.batches.proofs.batch.Statement.{statement}
+use Rattle.batches.proofs.batch.Tie as tie
 
 full : (c : tie.Start) → Full (c .args .account)
 full c = record { stack = search needs; hands = search needs; slots = search needs; sent = search needs; clean = search needs; tx = search needs }
