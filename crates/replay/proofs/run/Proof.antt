@@ -15,26 +15,41 @@ abbrev μ-loop : tie.MeasureT-loop
 μ-loop buffer₀ rings₀ addresses₀ pools₀ ids₀ offsets₀ lengths₀ memory₀ held₀ number₀ buffer rings addresses pools ids offsets lengths memory held number =
     2 ^ 64 - number
 
+-- ---- places: the entry, a round of the loop, and the end of a record's turn
+
+abbrev entry : tie.At-loop Inv-loop μ-loop → tie.Start Inv-loop μ-loop
+entry a = a .before .before .before .before .before .before .before .before .before .before
+
+abbrev round : tie.After-turn Inv-loop μ-loop → tie.In-loop Inv-loop μ-loop
+round c = c .before .before .before .before .before .before .before .before .before
+
+abbrev turned : tie.After-struct-known Inv-loop μ-loop → tie.After-turn Inv-loop μ-loop
+turned c = c .before .before .before .before .before .before .before .before .before .before .before .before .before .before .before .before .before
+
 -- after a record, everything that was lent has the length that it had at first
-still : (c : tie.After-turn Inv-loop μ-loop)
-    → (length (c .turn .last .1 .1 .0) ≡ length (c .before .before .before .before .before .before .before .before .before .before .before .before .before .before .before .before .before .before .before .before .args .buffer .now))
-    × (length (c .turn .last .1 .1 .1 .0) ≡ length (c .before .before .before .before .before .before .before .before .before .before .before .before .before .before .before .before .before .before .before .before .args .rings .now))
-    × (length (c .turn .last .1 .1 .1 .1 .0) ≡ length (c .before .before .before .before .before .before .before .before .before .before .before .before .before .before .before .before .before .before .before .before .args .addresses .now))
-    × (length (c .turn .last .1 .1 .1 .1 .1 .0) ≡ length (c .before .before .before .before .before .before .before .before .before .before .before .before .before .before .before .before .before .before .before .before .args .pools .now))
-    × (length (c .turn .last .1 .1 .1 .1 .1 .1 .0) ≡ length (c .before .before .before .before .before .before .before .before .before .before .before .before .before .before .before .before .before .before .before .before .args .ids .now))
-    × (length (c .turn .last .1 .1 .1 .1 .1 .1 .1 .0) ≡ length (c .before .before .before .before .before .before .before .before .before .before .before .before .before .before .before .before .before .before .before .before .args .offsets .now))
-    × (length (c .turn .last .1 .1 .1 .1 .1 .1 .1 .1 .0) ≡ length (c .before .before .before .before .before .before .before .before .before .before .before .before .before .before .before .before .before .before .before .before .args .lengths .now))
-    × (length (c .turn .last .1 .1 .1 .1 .1 .1 .1 .1 .1 .0) ≡ length (c .before .before .before .before .before .before .before .before .before .before .before .before .before .before .before .before .before .before .before .before .args .memory .now))
-still c = (
-  c .turn .kept .1 .1 .0 ∙ c .before .before .before .before .before .before .before .before .before .before .loop .inv .0,
-  c .turn .kept .1 .1 .1 .0 ∙ c .before .before .before .before .before .before .before .before .before .before .loop .inv .1,
-  c .turn .kept .1 .1 .1 .1 .0 ∙ c .before .before .before .before .before .before .before .before .before .before .loop .inv .2,
-  c .turn .kept .1 .1 .1 .1 .1 .0 ∙ c .before .before .before .before .before .before .before .before .before .before .loop .inv .3,
-  c .turn .kept .1 .1 .1 .1 .1 .1 .0 ∙ c .before .before .before .before .before .before .before .before .before .before .loop .inv .4,
-  c .turn .kept .1 .1 .1 .1 .1 .1 .1 .0 ∙ c .before .before .before .before .before .before .before .before .before .before .loop .inv .5,
-  c .turn .kept .1 .1 .1 .1 .1 .1 .1 .1 .0 ∙ c .before .before .before .before .before .before .before .before .before .before .loop .inv .6,
-  c .turn .kept .1 .1 .1 .1 .1 .1 .1 .1 .1 .0 ∙ c .before .before .before .before .before .before .before .before .before .before .loop .inv .7,
-)
+module _ (c : tie.After-turn Inv-loop μ-loop) where
+  abbrev head : tie.At-loop Inv-loop μ-loop
+  head = round c .before
+
+  still :
+      (length (c .turn .last .1 .1 .0) ≡ length (entry head .args .buffer .now))
+      × (length (c .turn .last .1 .1 .1 .0) ≡ length (entry head .args .rings .now))
+      × (length (c .turn .last .1 .1 .1 .1 .0) ≡ length (entry head .args .addresses .now))
+      × (length (c .turn .last .1 .1 .1 .1 .1 .0) ≡ length (entry head .args .pools .now))
+      × (length (c .turn .last .1 .1 .1 .1 .1 .1 .0) ≡ length (entry head .args .ids .now))
+      × (length (c .turn .last .1 .1 .1 .1 .1 .1 .1 .0) ≡ length (entry head .args .offsets .now))
+      × (length (c .turn .last .1 .1 .1 .1 .1 .1 .1 .1 .0) ≡ length (entry head .args .lengths .now))
+      × (length (c .turn .last .1 .1 .1 .1 .1 .1 .1 .1 .1 .0) ≡ length (entry head .args .memory .now))
+  still = (
+    c .turn .kept .1 .1 .0 ∙ head .loop .inv .0,
+    c .turn .kept .1 .1 .1 .0 ∙ head .loop .inv .1,
+    c .turn .kept .1 .1 .1 .1 .0 ∙ head .loop .inv .2,
+    c .turn .kept .1 .1 .1 .1 .1 .0 ∙ head .loop .inv .3,
+    c .turn .kept .1 .1 .1 .1 .1 .1 .0 ∙ head .loop .inv .4,
+    c .turn .kept .1 .1 .1 .1 .1 .1 .1 .0 ∙ head .loop .inv .5,
+    c .turn .kept .1 .1 .1 .1 .1 .1 .1 .1 .0 ∙ head .loop .inv .6,
+    c .turn .kept .1 .1 .1 .1 .1 .1 .1 .1 .1 .0 ∙ head .loop .inv .7,
+  )
 
 start-requires : tie.Need-start-requires Inv-loop μ-loop
 start-requires c κs = search needs
@@ -46,40 +61,40 @@ turn-requires : tie.Need-turn-requires Inv-loop μ-loop
 turn-requires c κs = search needs
 
 same-length : tie.Need-same-length Inv-loop μ-loop
-same-length c = still (c .before .before .before .before .before .before .before .before .before .before .before .before .before .before .before .before .before .before) .0
+same-length c = still (turned (c .before)) .0
 
 same-length-2 : tie.Need-same-length-2 Inv-loop μ-loop
-same-length-2 c = still (c .before .before .before .before .before .before .before .before .before .before .before .before .before .before .before .before .before .before) .1
+same-length-2 c = still (turned (c .before)) .1
 
 same-length-3 : tie.Need-same-length-3 Inv-loop μ-loop
-same-length-3 c = still (c .before .before .before .before .before .before .before .before .before .before .before .before .before .before .before .before .before .before) .2
+same-length-3 c = still (turned (c .before)) .2
 
 same-length-4 : tie.Need-same-length-4 Inv-loop μ-loop
-same-length-4 c = still (c .before .before .before .before .before .before .before .before .before .before .before .before .before .before .before .before .before .before) .3
+same-length-4 c = still (turned (c .before)) .3
 
 same-length-5 : tie.Need-same-length-5 Inv-loop μ-loop
-same-length-5 c = still (c .before .before .before .before .before .before .before .before .before .before .before .before .before .before .before .before .before .before) .4
+same-length-5 c = still (turned (c .before)) .4
 
 same-length-6 : tie.Need-same-length-6 Inv-loop μ-loop
-same-length-6 c = still (c .before .before .before .before .before .before .before .before .before .before .before .before .before .before .before .before .before .before) .5
+same-length-6 c = still (turned (c .before)) .5
 
 same-length-7 : tie.Need-same-length-7 Inv-loop μ-loop
-same-length-7 c = still (c .before .before .before .before .before .before .before .before .before .before .before .before .before .before .before .before .before .before) .6
+same-length-7 c = still (turned (c .before)) .6
 
 same-length-8 : tie.Need-same-length-8 Inv-loop μ-loop
-same-length-8 c = still (c .before .before .before .before .before .before .before .before .before .before .before .before .before .before .before .before .before .before) .7
+same-length-8 c = still (turned (c .before)) .7
 
 returns : tie.Need-returns Inv-loop μ-loop
 returns c = search needs
 
 add-number : tie.Need-add-number Inv-loop μ-loop
-add-number c = omega (arith, c .before .before .before .before .before .before .before .before .before .before .before .before .before .before .before .before .before .before .before .before .before .before .before .before .before .before .before .loop-test .taken)
+add-number c = omega (arith, round (turned (c .before)) .loop-test .taken)
 
 loop-less : tie.Need-loop-less Inv-loop μ-loop
-loop-less c = omega (arith, c .before .before .before .before .before .before .before .before .before .before .before .before .before .before .before .before .before .before .before .before .before .before .before .before .before .before .before .loop-test .taken)
+loop-less c = omega (arith, round (turned (c .before)) .loop-test .taken)
 
 loop-again : tie.Need-loop-again Inv-loop μ-loop
-loop-again c = still (c .before .before .before .before .before .before .before .before .before .before .before .before .before .before .before .before .before .before)
+loop-again c = still (turned (c .before))
 
 same-length-9 : tie.Need-same-length-9 Inv-loop μ-loop
 same-length-9 c = search needs
