@@ -1,5 +1,5 @@
 """Runs the program `replay` on the stored stream, on streams that end in a record that is not good, and on random streams, each by its seed,
-and compares every line with the model's. It prints how often each call answered what:
+and compares every line with the model's. It prints how often each call answered what, and ends with status 1 if a line differs:
 
     rt check replay && python3 tools/replay_compare.py target/bin/replay 20 10000
 
@@ -123,7 +123,7 @@ def compared(program, stream, answers):
 
 
 def main(program, count, size, seed=1000):
-    answers, results = collections.Counter(), []
+    answers, differ = collections.Counter(), 0
     for name, streams in (
         ("stored", [stored()]),
         ("empty", [b""]),
@@ -132,9 +132,11 @@ def main(program, count, size, seed=1000):
     ):
         results = [compared(program, stream, answers) for stream in streams]
         print(f"{name}: {len(results)} streams, {results.count(False)} differ, {sum(answers.values())} lines so far", flush=True)
+        differ += results.count(False)
     for (word, answer), often in sorted(answers.items()):
         print(word, answer, often)
+    return 1 if differ else 0
 
 
 if __name__ == "__main__":
-    main(sys.argv[1], *map(int, sys.argv[2:]))
+    sys.exit(main(sys.argv[1], *map(int, sys.argv[2:])))

@@ -12,7 +12,7 @@ use lib.Dec.{eqb, ltb}
 use lib.ListN.{length, getD}
 use Rattle.laws.specs.Test.{pick}
 use Rattle.card.specs.Registers.{registers, entry, address}
-use Rattle.card.specs.Masks.{changed}
+use Rattle.card.specs.Masks.{changed, linkSpeed}
 use Rattle.plan.specs.declared.Item.{Item}
 use Rattle.plan.specs.declared.Item.the-variants as item
 use Rattle.plan.specs.declared.Setup.{Setup}
@@ -191,6 +191,9 @@ module _ (queue : ℕ) where
 -- two things that equal one rule
 same : {A : Type 0} {x y rule : A} → x ≡ rule → y ≡ rule → x ≡ y
 same p q = p ∙ sym q
+
+pub speed-unique : (value r s : ℕ) → r ≡ linkSpeed value → s ≡ linkSpeed value → r ≡ s
+speed-unique value r s p q = same p q
 
 pub mac-of-unique : (low high : ℕ) (r s : List ℕ) → r ≡ macOf low high → s ≡ macOf low high → r ≡ s
 mac-of-unique low high r s p q = same p q

@@ -223,6 +223,9 @@ pub new-unique : (range threshold interval : ℕ) (r s : Opened) → r ≡ newCa
 new-unique range threshold interval r s p q = p ∙ sym q
 
 module _ (w : Window) where
+  pub is-sound-unique : (r s : Bool) → r ≡ sound w → s ≡ sound w → r ≡ s
+  is-sound-unique r s p q = p ∙ sym q
+
   pub tick-unique : (r s : Ticked) → r ≡ tickCall w → s ≡ tickCall w → r ≡ s
   tick-unique r s p q = p ∙ sym q
 
