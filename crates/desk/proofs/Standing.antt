@@ -1,11 +1,12 @@
--- What holds between two records: all that is lent keeps its length, the account is sound, and input and output are within their bounds.
-use Prim.Native.Nat.{ℕ, _≤_}
+-- What holds between two reads: all that is lent keeps its length, the account is sound, and the input is within its bounds.
+use Prim.Native.Nat.{ℕ, _-_, _^_, _<_}
 use mathlib.Core.Path.{_≡_, refl, ap, _∙_}
 use mathlib.Core.Bool.{true}
 use mathlib.Core.List.{List}
+use native.Mathlib.Omega.{arith}
 use lib.ListN.{length}
-use Rattle.rules.specs.declared.Account.{Account}
 use Rattle.rules.specs.Sound.{sound}
+use Rattle.turns.specs.declared.Run.{Run}
 use Rattle.desk.specs.declared.Input.{Input}
 use Rattle.desk.specs.Desk.{Held}
 
@@ -54,10 +55,15 @@ same-more a b =
       sizes = a .sizes ∙ b .sizes;
     }
 
-pub record Standing (buffer₀ out₀ : List ℕ) (lists₀ : Lists) (buffer out : List ℕ) (now : Lists) (account : Account) (input : Input) (at : ℕ) : Type 0 where
+pub record Standing (buffer₀ out₀ : List ℕ) (lists₀ : Lists) (buffer out : List ℕ) (now : Lists) (run : Run) (input : Input) (count : ℕ) : Type 0 where
   pub whole : length buffer ≡ length buffer₀
   pub room : length out ≡ length out₀
   pub kept : Same now lists₀
-  pub good : sound account ≡ true
+  pub good : sound (run .account) ≡ true
   pub held : Held input buffer
-  pub gathered : at ≤ length out
+  pub few : run .count < 2 ^ 64
+  pub counted : count < 2 ^ 64
+
+-- a record that is counted is one fewer that can be
+pub closer : {n m : ℕ} → n < m → n < 2 ^ 64 → 2 ^ 64 - m < 2 ^ 64 - n
+closer more few = omega arith

@@ -1,5 +1,6 @@
 -- Document 01, "The bench program": which bytes mean which record. The bytes are a record's without its length: the kind, then the body.
-use Prim.Native.Nat.{ℕ, _+_, _*_}
+use Prim.Native.Nat.{ℕ, _+_, _*_, _≤_, _<_}
+use mathlib.Core.Path.{_≡_}
 use mathlib.Core.Bool.{Bool, true, false}
 use mathlib.Core.List.{List}
 use lib.ListN.{length}
@@ -15,6 +16,19 @@ use Rattle.records.specs.declared.Way.the-variants as way
 -- the most ids of a record, whose length is a u16
 abbrev pub MOST : ℕ
 MOST = 32764
+
+-- ---- a record among bytes: a u16, and as many bytes behind it
+
+-- where the record at a place ends, if the bytes do not end before it; 0 if it is cut short
+abbrev pub endAt : ℕ → List ℕ → ℕ
+endAt from b = from + 2 + leAt 2 from b
+
+unfoldable pub endOf : ℕ → ℕ → List ℕ → ℕ
+endOf from to b = pick (ltb to (from + 2)) 0 (pick (ltb to (endAt from b)) 0 (endAt from b))
+
+-- a record that is not cut short has its length, and ends within the bytes
+abbrev pub Ends : ℕ → ℕ → ℕ → Type 0
+Ends from to end = (end ≡ 0 → ⊥) → (from + 2 ≤ end) × (end ≤ to) × (end < from + 65538)
 
 -- ---- what each kind's bytes are: bad if there are more or fewer, or a slot is above 511
 

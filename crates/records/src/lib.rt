@@ -1,10 +1,10 @@
 // Which bytes mean which of the bench's records, and what the card's records do to the rings. Document 01, "The bench program".
 ghost use mathlib.Core.Path.{_≡_};
-ghost use Prim.Native.Nat.{_<_};
+ghost use Prim.Native.Nat.{_≤_, _<_};
 ghost use lib.ListN.{length};
 ghost use Rattle.limits.specs.Limits.{SENDS, SLOTS, RING-BYTES};
 ghost use Rattle.words.specs.Slots.{InRing};
-ghost use Rattle.records.specs.Records.{freshOf, startOf, takeOf, releaseOf, doneOf, frameOf, receiveOf, sendOf, recordOf, kindOf, allowed, cardOf, wayOf};
+ghost use Rattle.records.specs.Records.{freshOf, startOf, takeOf, releaseOf, doneOf, frameOf, receiveOf, sendOf, recordOf, endOf, Ends, kindOf, allowed, cardOf, wayOf};
 ghost use Rattle.records.specs.Card.{SEND-BYTES, frameRule, doneRule, cardAs, cardRule};
 use limits::SENDS;
 use limits::SLOT_BYTES;
@@ -169,6 +169,22 @@ pub fn decode(rest: &[u8]) -> Record
         return send_record(rest);
     }
     Record::Bad
+}
+
+// Where the record at a place ends; 0 if it is cut short.
+pub fn end_of(bytes: &[u8], from: usize, to: usize) -> usize
+    requires { ⌜ (from ≤ to) × (to ≤ length (now bytes)) ⌝ }
+    ensures end { λ r. ⌜ r ≡ endOf from to (now (bytes .entry)) ⌝ }
+    ensures bounds { λ r. ⌜ Ends from to r ⌝ }
+{
+    if to - from < 2 {
+        return 0;
+    }
+    let end = from + 2 + words::read16(bytes, from) as usize;
+    if to < end {
+        return 0;
+    }
+    end
 }
 
 // The number of a record's kind; 0 for a bad one.

@@ -22,7 +22,7 @@ use Rattle.rules.proofs.Receive.{Ready, ready-turn, receive-holds}
 use Rattle.rules.proofs.Calls.{start-keeps, receive-keeps, send-keeps-account}
 use Rattle.receiving.proofs.Laws.{receivable}
 use Rattle.tally.specs.Tally.{Memory, answeredAs}
-use Rattle.stream.specs.Bench.{startAnswer, receiveAnswer, sendAnswered, ringOf, sendFrom, sendAnswer}
+use Rattle.stream.specs.Bench.{startAnswer, noHandles, receiveAnswer, sendAnswered, ringOf, sendFrom, sendAnswer}
 
 module _ {a : Account} (full : Full a) (e : sound a ≡ true) where
   pub start-stays : (rx addresses : List ℕ) → sound (startCall a 0 rx addresses .answer .account) ≡ true
@@ -34,6 +34,12 @@ module _ {a : Account} (full : Full a) (e : sound a ≡ true) where
   pub send-stays : (queue : ℕ) (ring addresses : List ℕ) (lists : Handles) → sound (sendCall a queue ring addresses lists .answer .account) ≡ true
   send-stays queue ring addresses lists = means-sound _ (send-keeps-account full (sound-means a e) queue ring addresses lists .1)
 
+  -- a receive that is done starts ready
+  pub ready-first : (n : ℕ) (rx addresses : List ℕ) (lists : Handles) → receiveVerdict a 0 rx addresses n lists ≡ Done → Ready n (receiving a rx lists)
+  ready-first n rx addresses lists done =
+      let lent = receivable a full rx addresses 0 n lists done in
+      record { place = lent .place; whole = lent .whole; room = rw zero-add (lent .room); not-over = omega arith; cleared = λ j h. absurd (omega arith) }
+
   -- a receive takes no more than a ring has: a slot taken reads not done
   pub received-few : (n : ℕ) (rx addresses : List ℕ) (lists : Handles) → receiveCall a 0 rx addresses n lists .answer .count ≤ SLOTS
   unfolding receiveCall
@@ -41,13 +47,8 @@ module _ {a : Account} (full : Full a) (e : sound a ≡ true) where
       verdict-holds (λ (r : AfterReceive). r .answer .count ≤ SLOTS) (receiveVerdict a 0 rx addresses n lists) _ _
       (λ done.
       receive-holds (a .pool) (a .size) addresses Ready (λ o. o .work .count ≤ SLOTS) (λ m w reason ready. ready .not-over)
-      (λ m len w frame ready. ready-turn (a .pool) (a .size) addresses ready frame) n (receiving a rx lists) (ready-first done))
+      (λ m len w frame ready. ready-turn (a .pool) (a .size) addresses ready frame) n (receiving a rx lists) (ready-first n rx addresses lists done))
       (λ why refused. omega arith)
-    where
-      ready-first : receiveVerdict a 0 rx addresses n lists ≡ Done → Ready n (receiving a rx lists)
-      ready-first done =
-          let lent = receivable a full rx addresses 0 n lists done in
-          record { place = lent .place; whole = lent .whole; room = rw zero-add (lent .room); not-over = omega arith; cleared = λ j h. absurd (omega arith) }
 
   -- ---- the same of what the records answer
 
@@ -55,9 +56,9 @@ module _ {a : Account} (full : Full a) (e : sound a ≡ true) where
   unfolding startAnswer
   start-answer = start-stays
 
-  pub receive-answer : (n : ℕ) (rx addresses : List ℕ) (lists : Handles) (m : Memory) → sound (receiveAnswer a n rx addresses lists m .answer .account) ≡ true
+  pub receive-answer : (n : ℕ) (rx addresses : List ℕ) (m : Memory) → sound (receiveAnswer a n rx addresses m .answer .account) ≡ true
   unfolding receiveAnswer
-  receive-answer n rx addresses lists m = receive-stays n rx addresses lists
+  receive-answer n rx addresses m = receive-stays n rx addresses noHandles
 
   -- no such queue leaves the account as it was
   pub send-answer : (queue : ℕ) (lists : Handles) (addresses tx : List ℕ) → sound (sendAnswer a queue lists addresses tx .answer .account) ≡ true

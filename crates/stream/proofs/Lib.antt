@@ -1,3 +1,4 @@
 pub mod Memory
 pub mod Sized
 pub mod Keeps
+pub mod Scratch

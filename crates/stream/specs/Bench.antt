@@ -3,9 +3,9 @@
 use Prim.Native.Nat.{ℕ, zero, suc, _+_, _*_}
 use mathlib.Core.Path.{_≡_}
 use mathlib.Core.List.{List, _++_, map}
-use lib.ListN.{length, getD, take, drop}
+use lib.ListN.{length, getD, take, drop, replicate}
 use lib.Dec.{ltb}
-use Rattle.limits.specs.Limits.{ENTRIES, RING-BYTES}
+use Rattle.limits.specs.Limits.{ENTRIES, SLOTS, RING-BYTES}
 use Rattle.laws.specs.Test.{pick}
 use Rattle.laws.specs.Occurs.{upFrom}
 use Rattle.words.specs.Le.{leAt}
@@ -73,8 +73,12 @@ receiveFrom r m =
     (r .ring)
     (rememberAll (r .lists .ids) (r .lists .offsets) (r .lists .lengths) 0 (r .answer .count) m)
 
-unfoldable pub receiveAnswer : Account → ℕ → List ℕ → List ℕ → Handles → Memory → ReceiveLeft
-receiveAnswer a n rx addresses lists m = receiveFrom (receiveCall a 0 rx addresses n lists) m
+-- lists that hold nothing: what those of the bench held before does not matter
+unfoldable pub noHandles : Handles
+noHandles = handles (replicate SLOTS 0) (replicate SLOTS 0) (replicate SLOTS 0) (replicate SLOTS 0)
+
+unfoldable pub receiveAnswer : Account → ℕ → List ℕ → List ℕ → Memory → ReceiveLeft
+receiveAnswer a n rx addresses m = receiveFrom (receiveCall a 0 rx addresses n noHandles) m
 
 -- send: the value is the count. No such queue is 3
 pub record SendLeft : Type 0 where
@@ -151,14 +155,14 @@ afterReceive r s = outcomeAs (r .answer) (r .rx) (s .tx) (r .memory)
 abbrev pub afterSend : SendLeft → State → Outcome
 afterSend r s = outcomeAs (r .answer) (s .rx) (r .tx) (s .memory)
 
-abbrev pub accountRule : Record → List ℕ → List ℕ → Handles → State → Outcome
-accountRule (Fresh entries size sends) b addresses lists s = quiet s
-accountRule Start b addresses lists s = afterStart (startAnswer (s .account) (s .rx) (each s addresses)) s
-accountRule (Take size) b addresses lists s = afterTake (takeAnswer (s .account) size (s .memory)) s
-accountRule (Release id) b addresses lists s = outcomeAs (releaseAnswer (s .account) id (s .memory)) (s .rx) (s .tx) (s .memory)
-accountRule (Done queue slot) b addresses lists s = quiet s
-accountRule (Frame slot status len) b addresses lists s = quiet s
-accountRule (Receive n) b addresses lists s = afterReceive (receiveAnswer (s .account) n (s .rx) (each s addresses) lists (s .memory)) s
-accountRule (Send queue count) b addresses lists s =
+abbrev pub accountRule : Record → List ℕ → List ℕ → State → Outcome
+accountRule (Fresh entries size sends) b addresses s = quiet s
+accountRule Start b addresses s = afterStart (startAnswer (s .account) (s .rx) (each s addresses)) s
+accountRule (Take size) b addresses s = afterTake (takeAnswer (s .account) size (s .memory)) s
+accountRule (Release id) b addresses s = outcomeAs (releaseAnswer (s .account) id (s .memory)) (s .rx) (s .tx) (s .memory)
+accountRule (Done queue slot) b addresses s = quiet s
+accountRule (Frame slot status len) b addresses s = quiet s
+accountRule (Receive n) b addresses s = afterReceive (receiveAnswer (s .account) n (s .rx) (each s addresses) (s .memory)) s
+accountRule (Send queue count) b addresses s =
     afterSend (sendAnswer (s .account) queue (sendLists b count (s .memory)) (each s addresses) (s .tx)) s
-accountRule Bad b addresses lists s = quiet s
+accountRule Bad b addresses s = quiet s

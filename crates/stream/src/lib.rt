@@ -109,7 +109,7 @@ fn receive(
     sizes: &mut [u16],
 ) -> Answer
     requires { ⌜ (sound account ≡ true) × (length (now offsets) ≡ ENTRIES) × (length (now lengths) ≡ ENTRIES) × Room SLOTS (handles (now pools) (now ids) (now froms) (now sizes)) ⌝ }
-    ensures { λ r. ⌜ receiveAnswered r (now (rx .exit)) (memoryAs (now (offsets .exit)) (now (lengths .exit))) ≡ receiveAnswer account n (now (rx .entry)) (now (addresses .entry)) (handles (now (pools .entry)) (now (ids .entry)) (now (froms .entry)) (now (sizes .entry))) (memoryAs (now (offsets .entry)) (now (lengths .entry))) ⌝ }
+    ensures { λ r. ⌜ receiveAnswered r (now (rx .exit)) (memoryAs (now (offsets .exit)) (now (lengths .exit))) ≡ receiveAnswer account n (now (rx .entry)) (now (addresses .entry)) (memoryAs (now (offsets .entry)) (now (lengths .entry))) ⌝ }
 {
     let received = receiving::receive(account, 0, rx, addresses, n, pools, ids, froms, sizes);
     let count = received.count;
@@ -173,7 +173,7 @@ pub fn on_account(
     sizes: &mut [u16],
 ) -> Answer
     requires { ⌜ (sound account ≡ true) × (what ≡ recordOf (now rest)) × (length (now rest) < 65536) × Bench (benchAs account (now rx) (now tx) (memoryAs (now offsets) (now lengths))) (now addresses) (handles (now pools) (now ids) (now froms) (now sizes)) ⌝ }
-    ensures answer { λ r. ⌜ outcomeAs r (now (rx .exit)) (now (tx .exit)) (memoryAs (now (offsets .exit)) (now (lengths .exit))) ≡ accountRule what (now (rest .entry)) (now (addresses .entry)) (handles (now (pools .entry)) (now (ids .entry)) (now (froms .entry)) (now (sizes .entry))) (benchAs account (now (rx .entry)) (now (tx .entry)) (memoryAs (now (offsets .entry)) (now (lengths .entry)))) ⌝ }
+    ensures answer { λ r. ⌜ outcomeAs r (now (rx .exit)) (now (tx .exit)) (memoryAs (now (offsets .exit)) (now (lengths .exit))) ≡ accountRule what (now (rest .entry)) (now (addresses .entry)) (benchAs account (now (rx .entry)) (now (tx .entry)) (memoryAs (now (offsets .entry)) (now (lengths .entry)))) ⌝ }
     ensures keeps { λ r. ⌜ sound (r .account) ≡ true ⌝ }
 {
     match what {

@@ -57,7 +57,7 @@ fn ring_count(started: bool) -> usize
 }
 
 // What each hand of an account has, by its numbers alone.
-fn counted(account: Account) -> Tally
+pub fn counted(account: Account) -> Tally
     requires { ⌜ sound account ≡ true ⌝ }
     ensures { λ r. ⌜ r ≡ tallyOf account ⌝ }
 {

@@ -152,7 +152,7 @@ same-length-12 : tie.Need-same-length-12
 same-length-12 c = search needs
 
 returns-7 : tie.Need-returns-7
-returns-7 c = (rw (c .before .before .before .before .before .before .before .before .before .before .before .before .before .before .before .before .before .before .before .before .before .before .before .before .what3 .given .1, ← c .before .before .before .before .before .before .before .before .before .before .before .before .before .before .receive .ensures), rw (ap (λ (o : ReceiveLeft). o .answer .account) (c .before .before .before .before .before .before .before .before .before .before .before .before .before .before .receive .ensures)) (receive-answer (full (c .before .before .before .before .before .before .before .before .before .before .before .before .before .before .before .before .before .before .before .before .before .before .before .before .before .before .before .before .before .before .before .before .before .before .before .before)) (c .before .before .before .before .before .before .before .before .before .before .before .before .before .before .before .before .before .before .before .before .before .before .before .before .before .before .before .before .before .before .before .before .before .before .before .before .pre .0) _ _ _ _ _))
+returns-7 c = (rw (c .before .before .before .before .before .before .before .before .before .before .before .before .before .before .before .before .before .before .before .before .before .before .before .before .what3 .given .1, ← c .before .before .before .before .before .before .before .before .before .before .before .before .before .before .receive .ensures), rw (ap (λ (o : ReceiveLeft). o .answer .account) (c .before .before .before .before .before .before .before .before .before .before .before .before .before .before .receive .ensures)) (receive-answer (full (c .before .before .before .before .before .before .before .before .before .before .before .before .before .before .before .before .before .before .before .before .before .before .before .before .before .before .before .before .before .before .before .before .before .before .before .before)) (c .before .before .before .before .before .before .before .before .before .before .before .before .before .before .before .before .before .before .before .before .before .before .before .before .before .before .before .before .before .before .before .before .before .before .before .before .pre .0) _ _ _ _))
 
 same-length-13 : tie.Need-same-length-13
 same-length-13 c = search needs

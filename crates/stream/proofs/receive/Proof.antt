@@ -1,12 +1,12 @@
--- `stream::receive` meets its contract: what was received is remembered, and the account is sound. Assumes nothing.
+-- `stream::receive` meets its contract: what was received is remembered, whatever the lists held, and the account is sound. Assumes nothing.
 use Prim.Native.Nat.{_≤_}
 use mathlib.Core.Path.{ap}
 use native.Mathlib.Omega.{arith}
 use Rattle.limits.specs.Limits.{SLOTS}
 use Rattle.rules.specs.Sound.{Full}
 use Rattle.rules.specs.Receive.{AfterReceive}
-use Rattle.stream.specs.Bench.{receiveAnswer}
 use Rattle.stream.proofs.Keeps.{receive-stays, received-few}
+use Rattle.stream.proofs.Scratch.{receive-any}
 use borrow.Author.Needs.{needs}
 use Rattle.stream.proofs.receive.Statement.{statement}
 use Rattle.stream.proofs.receive.Tie as tie
@@ -58,8 +58,9 @@ same-length-7 : tie.Need-same-length-7
 same-length-7 c = search needs
 
 returns : tie.Need-returns
-unfolding receiveAnswer
-returns c = rw (c .answered .ensures, c .before .ended-number .ensures, c .before .before .before .before .before .before .remember .ensures, ← c .before .before .before .before .before .before .before .before .before .before .before .before .before .before .before .before .before .before .before .before .before .before .before .receive .ensures)
+returns c =
+    let s = c .before .before .before .before .before .before .before .before .before .before .before .before .before .before .before .before .before .before .before .before .before .before .before .before .before .before .before .before .before .before .before .before .before .before .before .before .before in
+    rw (c .answered .ensures, c .before .ended-number .ensures, c .before .before .before .before .before .before .remember .ensures, receive-any (full s) (s .pre .0) _ _ _ _ (s .pre .3), ← c .before .before .before .before .before .before .before .before .before .before .before .before .before .before .before .before .before .before .before .before .before .before .before .receive .ensures)
 
 pub receive-spec : {M : Type 1} → statement M
 receive-spec =

@@ -1,13 +1,13 @@
--- `desk::stand_in` meets its contract: one entry of the smallest size is in range. Assumes nothing.
+-- `turns::first` meets its contract: one entry of the smallest size is in range. Assumes nothing.
 use mathlib.Core.Path.{_≡_, refl}
+use Rattle.laws.specs.Test.{some}
 use Rattle.rules.specs.Packets.{freshCall}
 use Rattle.rules.specs.Sound.{isSize, inRange}
 use Rattle.rules.specs.Refusals.{freshVerdict}
-use Rattle.laws.specs.Test.{some}
 use Rattle.tally.specs.Tally.{freshAnswer}
 use borrow.Author.Needs.{needs}
-use Rattle.desk.proofs.stand_in.Statement.{statement}
-use Rattle.desk.proofs.stand_in.Tie as tie
+use Rattle.turns.proofs.first.Statement.{statement}
+use Rattle.turns.proofs.first.Tie as tie
 
 fresh-requires : tie.Need-fresh-requires
 fresh-requires c κs = search needs
@@ -17,7 +17,7 @@ unfolding freshAnswer freshCall freshVerdict inRange isSize some
 in-range = refl
 
 returns : tie.Need-returns
-returns c = c .before .fresh .ensures .1 (rw (c .before .fresh .ensures .0) in-range)
+returns c = (refl, refl, refl, c .before .fresh .ensures .1 (rw (c .before .fresh .ensures .0) in-range))
 
-pub stand-in-spec : {M : Type 1} → statement M
-stand-in-spec = tie.close (tie.spec fresh-requires returns)
+pub first-spec : {M : Type 1} → statement M
+first-spec = tie.close (tie.spec fresh-requires returns)
