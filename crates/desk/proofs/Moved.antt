@@ -1,5 +1,5 @@
 -- Bytes that are moved to the front one by one: what was moved, and what stands behind it as it was.
-use Prim.Native.Nat.{ℕ, _+_, _-_, _≤_, _<_}
+use Prim.Native.Nat.{ℕ, _+_, _≤_, _<_}
 use mathlib.Core.Path.{_≡_, sym, ap, _∙_}
 use mathlib.Core.List.{List, _++_}
 use lib.ListN.{length, length-drop, getD, set, take, drop}

@@ -26,11 +26,12 @@ fn put_byte(out: &mut [u8], at: usize, byte: u8) -> usize
     at + 1
 }
 
-// The first bytes of a text.
-fn put_text(out: &mut [u8], at: usize, text: &[u8], count: usize) -> usize
-    requires { ⌜ (at + count ≤ length (now out)) × (count ≤ length (now text)) ⌝ }
-    ensures { λ r. ⌜ (r ≡ at + count) × (take r (now (out .exit)) ≡ take at (now (out .entry)) ++ take count (now (text .entry))) ⌝ }
+// A text.
+fn put_text(out: &mut [u8], at: usize, text: &[u8]) -> usize
+    requires { ⌜ at + length (now text) ≤ length (now out) ⌝ }
+    ensures { λ r. ⌜ (r ≡ at + length (now (text .entry))) × (take r (now (out .exit)) ≡ take at (now (out .entry)) ++ now (text .entry)) ⌝ }
 {
+    let count = text.len();
     for i in 0..count {
         out[at + i] = text[i];
     }
@@ -44,7 +45,7 @@ fn put(out: &mut [u8], at: usize, n: u64, behind: u8) -> usize
 {
     let mut text = [0u8; 20];
     let digits = io::decimal(n, &mut text);
-    let end = put_text(out, at, &text[..digits], digits);
+    let end = put_text(out, at, &text[..digits]);
     put_byte(out, end, behind)
 }
 
@@ -76,7 +77,7 @@ pub fn put_bad(out: &mut [u8], from: usize, count: u64) -> usize
     requires { ⌜ from + LINE ≤ length (now out) ⌝ }
     ensures { λ r. ⌜ (r ≤ from + LINE) × (take r (now (out .exit)) ≡ take from (now (out .entry)) ++ badText count) ⌝ }
 {
-    let at = put_text(out, from, b"bad ", 4);
+    let at = put_text(out, from, b"bad ");
     put(out, at, count, b'\n')
 }
 

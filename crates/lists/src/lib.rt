@@ -1,7 +1,9 @@
 // What a call is lent. A list of handles is four parallel lists of numbers: room for so many, the handle at a place, a handle put at a place.
-// A ring is whole, and has one address for each entry beside it.
+// A ring is whole, and has one address for each entry beside it; a send ring has so many slots pending.
 ghost use mathlib.Core.Path.{_≡_};
-ghost use Prim.Native.Nat.{_+_, _≤_, min};
+ghost use Prim.Native.Nat.{_+_, _<_, min};
+ghost use Rattle.limits.specs.Limits.{SLOTS};
+ghost use Rattle.rules.specs.Account.{waiting};
 ghost use Rattle.rules.specs.Handles.{handles, handleAt, putHandle, hasRoom, Room};
 ghost use Rattle.rules.specs.Refusals.{ringsFit};
 use limits::SLOT_BYTES;
@@ -13,6 +15,14 @@ pub fn least(a: usize, b: usize) -> usize
     ensures { λ r. ⌜ r ≡ min a b ⌝ }
 {
     if a < b { a } else { b }
+}
+
+// How many slots of a queue wait to be cleaned.
+pub fn pending(tx: usize, clean: usize) -> usize
+    requires { ⌜ (tx < SLOTS) × (clean < SLOTS) ⌝ }
+    ensures { λ r. ⌜ r ≡ waiting tx clean ⌝ }
+{
+    (tx + SLOTS - clean) % SLOTS
 }
 
 // Whether each list has room for n.

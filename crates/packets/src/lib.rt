@@ -4,12 +4,12 @@ ghost use mathlib.Core.Path.{_≡_};
 ghost use mathlib.Core.Bool.{true};
 ghost use Prim.Native.Nat.{_≤_, _<_};
 ghost use lib.ListN.{take};
-ghost use Rattle.limits.specs.Limits.{ENTRIES, SLOTS};
+ghost use Rattle.limits.specs.Limits.{ENTRIES};
 ghost use Rattle.laws.specs.Occurs.{occurs, upFrom};
 ghost use Rattle.pool.specs.Stack.{top};
 ghost use Rattle.pool.specs.Hands.{HAND-OUT};
 ghost use Rattle.rules.specs.Handles.{noHandle};
-ghost use Rattle.rules.specs.Account.{waiting, opened, withPool};
+ghost use Rattle.rules.specs.Account.{opened, withPool};
 ghost use Rattle.rules.specs.Sound.{isGood, queuesPlaced, sound};
 ghost use Rattle.rules.specs.Refusals.{takeVerdict, handleVerdict};
 ghost use Rattle.rules.specs.Packets.{packetOf, taken, takeCall, countsOf, countsCall, released, releaseCall, shortened, truncateCall};
@@ -259,15 +259,7 @@ fn count_out(entries: usize, hands: &[u8; ENTRIES]) -> usize
     out
 }
 
-// How many slots of a queue wait to be cleaned.
-pub fn pending(tx: usize, clean: usize) -> usize
-    requires { ⌜ (tx < SLOTS) × (clean < SLOTS) ⌝ }
-    ensures { λ r. ⌜ r ≡ waiting tx clean ⌝ }
-{
-    (tx + SLOTS - clean) % SLOTS
-}
-
-// The same for each queue that there is.
+// How many slots wait to be cleaned, for each queue that there is.
 fn send_counts(sends: usize, clean: &[usize; SENDS], tx: &[usize; SENDS]) -> [usize; SENDS]
     requires { ⌜ queuesPlaced sends (now clean) (now tx) ≡ true ⌝ }
     ensures { λ r. ⌜ r ≡ countsOf sends (now (clean .entry)) (now (tx .entry)) ⌝ }
@@ -275,7 +267,7 @@ fn send_counts(sends: usize, clean: &[usize; SENDS], tx: &[usize; SENDS]) -> [us
     let mut counts = [0usize; SENDS];
     for q in 0..SENDS {
         if q < sends {
-            counts[q] = pending(tx[q], clean[q]);
+            counts[q] = lists::pending(tx[q], clean[q]);
         }
     }
     counts

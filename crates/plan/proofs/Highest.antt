@@ -5,9 +5,9 @@ use mathlib.Core.Path.{_≡_, refl}
 use lib.ListN.{getD}
 use Rattle.card.specs.Registers.{registers, entry, address, HIGHEST}
 use Rattle.card.specs.Masks.{CTRL-RST, EEC-ARD}
+use Rattle.parts.specs.Parts.{parts}
 use Rattle.plan.specs.declared.Setup.{Setup}
 use Rattle.plan.specs.declared.Item.the-variants.{End, Write, WaitSet, WaitClear, Pause}
-use Rattle.plan.specs.Parts.{parts}
 use Rattle.plan.specs.Sequence.{sequence}
 
 -- the place of that wait

@@ -15,19 +15,19 @@ use lib.Seq.{drop-cons}
 use Rattle.limits.specs.Limits.{QUEUES}
 use Rattle.laws.specs.Test.{pick, both}
 use Rattle.card.specs.Registers.{ROWS}
+use Rattle.parts.specs.declared.Part.{Part}
+use Rattle.parts.specs.declared.Template.{Template}
+use Rattle.parts.specs.declared.Template.the-variants.{Write, Read, Change, WaitSet, WaitClear, Pause, Link}
+use Rattle.parts.specs.declared.Times.{Times}
+use Rattle.parts.specs.declared.Times.the-variants.{Once, Buffer, Receive, Send, MsiQueue, MsixQueue}
+use Rattle.parts.specs.Parts.{Made, parts, rowOf, rowFor, partRows, itemsOf, noPart, noTemplate, noMade, PARTS, TEMPLATES}
+use Rattle.parts.proofs.Lists.{at-right, at-map, drop-all, all, all-cons, at-all}
 use Rattle.plan.specs.declared.Setup.{Setup}
-use Rattle.plan.specs.declared.Part.{Part}
 use Rattle.plan.specs.declared.Interrupts.{Interrupts}
 use Rattle.plan.specs.declared.Interrupts.the-variants.{Off, Kind}
 use Rattle.plan.specs.declared.Item.{Item}
 use Rattle.plan.specs.declared.Item.the-variants.{End}
-use Rattle.plan.specs.declared.Template.{Template}
-use Rattle.plan.specs.declared.Template.the-variants.{Write, Read, Change, WaitSet, WaitClear, Pause, Link}
-use Rattle.plan.specs.declared.Times.{Times}
-use Rattle.plan.specs.declared.Times.the-variants.{Once, Buffer, Receive, Send, MsiQueue, MsixQueue}
-use Rattle.plan.specs.Parts.{Made, parts, rowOf, rowFor, partRows, itemsOf, noPart, noTemplate, noMade, PARTS, TEMPLATES, ITEMS}
-use Rattle.plan.specs.Sequence.{Ranged, MSI, MSIX, byKind, timesOf, timesFor, filled, each, forQueue, made, joined, sequence}
-use Rattle.plan.proofs.Lists.{at-right, at-map, drop-all, all, all-cons, at-all}
+use Rattle.plan.specs.Sequence.{Ranged, MSI, MSIX, byKind, timesOf, timesFor, filled, each, forQueue, made, joined, sequence, ITEMS}
 
 -- ---- one queue after the other
 

@@ -1,4 +1,2 @@
-pub mod Lists
-pub mod Rows
 pub mod Laws
 pub mod Highest

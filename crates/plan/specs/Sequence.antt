@@ -8,18 +8,18 @@ use Rattle.limits.specs.Limits.{QUEUES}
 use Rattle.laws.specs.Test.{pick}
 use Rattle.card.specs.Registers.{address}
 use Rattle.card.specs.Masks.{queueBit, vectorClear, vectorSet}
+use Rattle.parts.specs.declared.Value.{Value}
+use Rattle.parts.specs.declared.Value.the-variants.{Is, FirstOnly, ReceiveLow, ReceiveHigh, SendLow, SendHigh, Rate, QueueBit, VectorClear, VectorZero, VectorQueue}
+use Rattle.parts.specs.declared.Template.{Template}
+use Rattle.parts.specs.declared.Template.the-variants.{Write, Read, Change, WaitSet, WaitClear, Pause, Link}
+use Rattle.parts.specs.declared.Times.{Times}
+use Rattle.parts.specs.declared.Times.the-variants.{Once, Buffer, Receive, Send, MsiQueue, MsixQueue}
+use Rattle.parts.specs.Parts.{Made, parts, PARTS, TEMPLATES}
 use Rattle.plan.specs.declared.Interrupts.{Interrupts}
 use Rattle.plan.specs.declared.Interrupts.the-variants.{Off, Kind}
 use Rattle.plan.specs.declared.Setup.{Setup}
 use Rattle.plan.specs.declared.Item.{Item}
 use Rattle.plan.specs.declared.Item.the-variants as item
-use Rattle.plan.specs.declared.Value.{Value}
-use Rattle.plan.specs.declared.Value.the-variants.{Is, FirstOnly, ReceiveLow, ReceiveHigh, SendLow, SendHigh, Rate, QueueBit, VectorClear, VectorZero, VectorQueue}
-use Rattle.plan.specs.declared.Template.{Template}
-use Rattle.plan.specs.declared.Template.the-variants.{Write, Read, Change, WaitSet, WaitClear, Pause, Link}
-use Rattle.plan.specs.declared.Times.{Times}
-use Rattle.plan.specs.declared.Times.the-variants.{Once, Buffer, Receive, Send, MsiQueue, MsixQueue}
-use Rattle.plan.specs.Parts.{Made, parts}
 
 -- the ring addresses that a set-up has room for
 abbrev pub RINGS : ℕ
@@ -113,3 +113,7 @@ joined s (p ∷ ps) = made s p ++ joined s ps
 
 unfoldable pub sequence : Setup → List Item
 sequence s = joined s parts
+
+-- no sequence has more items
+abbrev pub ITEMS : ℕ
+ITEMS = PARTS * (QUEUES * TEMPLATES)

@@ -2,9 +2,8 @@
 // `calls` makes the soundness test first, and then calls this. Ported from tx_batch of src/ixgbe.rs.
 ghost use mathlib.Core.Path.{_≡_};
 ghost use mathlib.Core.Bool.{true};
-ghost use Prim.Native.Nat.{_<_};
 ghost use lib.ListN.{getD, length};
-ghost use Prim.Native.Nat.{_+_, _≤_, min};
+ghost use Prim.Native.Nat.{_<_, min};
 ghost use Rattle.limits.specs.Limits.{SENDS, SLOTS, BATCH};
 ghost use Rattle.rules.specs.Handles.{handles};
 ghost use Rattle.rules.specs.Account.{waiting, withSend};
@@ -88,7 +87,7 @@ fn fitting(n: usize, tx: usize, clean: usize) -> usize
     requires { ⌜ (tx < SLOTS) × (clean < SLOTS) ⌝ }
     ensures { λ r. ⌜ r ≡ min n (roomFor (waiting tx clean)) ⌝ }
 {
-    let room = SLOTS - 1 - sends::pending(tx, clean);
+    let room = SLOTS - 1 - lists::pending(tx, clean);
     lists::least(n, room)
 }
 

@@ -1,12 +1,11 @@
 // The loops over send rings, on lent arrays and numbers: cleaning, the test of a list of handles, and sending. A host that keeps the
 // arrays itself calls them without a copy. Ported from clean_tx_queue and tx_batch of src/ixgbe.rs.
 ghost use mathlib.Core.Path.{_≡_};
-ghost use mathlib.Core.Bool.{true};
 ghost use Prim.Native.Nat.{ℕ, _+_, _<_, _≤_};
 ghost use lib.ListN.{length, getD};
-ghost use Rattle.limits.specs.Limits.{ENTRIES, SENDS, SLOTS};
+ghost use Rattle.limits.specs.Limits.{ENTRIES, SENDS};
 ghost use Rattle.words.specs.Slots.{InRing};
-ghost use Rattle.pool.specs.Hands.{HAND-OUT, HAND-SEND};
+ghost use Rattle.pool.specs.Hands.{HAND-OUT};
 ghost use Rattle.rules.specs.Handles.{handles, Room};
 ghost use Rattle.rules.specs.Account.{waiting, nextSlot};
 ghost use Rattle.rules.specs.Send.{giveBack, cleanRule, packetSent, sendRule};
@@ -21,14 +20,6 @@ use pool::HAND_SEND;
 use pool::Handle;
 
 // ---- cleaning
-
-// How many slots of a queue wait to be cleaned.
-pub fn pending(tx: usize, clean: usize) -> usize
-    requires { ⌜ (tx < SLOTS) × (clean < SLOTS) ⌝ }
-    ensures { λ r. ⌜ r ≡ waiting tx clean ⌝ }
-{
-    (tx + SLOTS - clean) % SLOTS
-}
 
 // The n oldest ids of a queue go onto the free stack, in order. Answers the new clean index.
 fn give_back(
@@ -79,7 +70,7 @@ pub fn clean(
     let mut first = clean;
     let mut deep = depth;
     let end = loop {
-        if pending(tx, first) < batch {
+        if lists::pending(tx, first) < batch {
             break first;
         }
         let last = (first + (batch - 1)) % SLOTS;

@@ -13,10 +13,10 @@ use lib.ListN.{length, getD}
 use Rattle.laws.specs.Test.{pick}
 use Rattle.card.specs.Registers.{registers, entry, address}
 use Rattle.card.specs.Masks.{changed, linkSpeed}
+use Rattle.parts.specs.Parts.{enableMsi, enableMsix, resetStats}
 use Rattle.plan.specs.declared.Item.{Item}
 use Rattle.plan.specs.declared.Item.the-variants as item
 use Rattle.plan.specs.declared.Setup.{Setup}
-use Rattle.plan.specs.Parts.{enableMsi, enableMsix, resetStats}
 use Rattle.plan.specs.Sequence.{MSI, MSIX, forQueue}
 use Rattle.startup.specs.declared.Action.{Action}
 use Rattle.startup.specs.declared.Action.the-variants.{Read, Write, Pause, Done, Refused}

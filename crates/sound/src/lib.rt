@@ -1,6 +1,5 @@
 // The test that an account is sound, which every public call makes first. Its scratch is one byte for each id.
 ghost use mathlib.Core.Path.{_≡_};
-ghost use mathlib.Core.Bool.{true};
 ghost use Prim.Native.Nat.{_+_, _≤_, _<_};
 ghost use lib.ListN.{length, take, set};
 ghost use Rattle.limits.specs.Limits.{ENTRIES, SENDS, SLOTS};
@@ -8,7 +7,7 @@ ghost use Rattle.laws.specs.Test.{pick};
 ghost use Rattle.pool.specs.Hands.{HAND-SEND};
 ghost use Rattle.rules.specs.Account.{around};
 ghost use Rattle.rules.specs.Sound.{isSize, inRange, indices, ringPlaced, queuesPlaced, sound};
-ghost use Rattle.sound.specs.Marks.{Marks, markable, markAll, settled, Numbered, inPlaces};
+ghost use Rattle.sound.specs.Marks.{markable, markAll, settled, Numbered, inPlaces};
 use limits::BATCH;
 use limits::ENTRIES;
 use limits::RECEIVES;

@@ -11,15 +11,15 @@ use Rattle.laws.specs.Test.{pick, every}
 use Rattle.laws.proofs.Test.{every-more, every-fails, every-at, every-all}
 use Rattle.card.specs.Registers.{ROWS, address, HIGHEST}
 use Rattle.card.proofs.Rule.{address-low}
-use Rattle.plan.specs.Parts.{rowOf}
+use Rattle.parts.specs.Parts.{rowOf}
+use Rattle.parts.specs.declared.Template.{Template}
+use Rattle.parts.specs.declared.Template.the-variants.{Write, Read, Change, WaitClear, Pause, Link}
+use Rattle.parts.specs.declared.Template.the-variants as template
 use Rattle.plan.specs.Sequence.{Ranged, filled}
 use Rattle.plan.proofs.Laws.{masked, of-every}
 use Rattle.plan.proofs.Highest.{HIGHEST-PLACE, at-highest}
 use Rattle.plan.specs.declared.Setup.{Setup}
 use Rattle.plan.specs.declared.Item.the-variants.{End, WaitSet}
-use Rattle.plan.specs.declared.Template.{Template}
-use Rattle.plan.specs.declared.Template.the-variants.{Write, Read, Change, WaitClear, Pause, Link}
-use Rattle.plan.specs.declared.Template.the-variants as template
 use Rattle.startup.specs.Machine.{inMap, reachable, itemAt, allPassed}
 
 -- ---- the test

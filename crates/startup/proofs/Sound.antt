@@ -10,8 +10,7 @@ use lib.ListN.{length}
 use Rattle.limits.specs.Limits.{QUEUES, TRIES}
 use Rattle.laws.specs.Test.{pick, both, either}
 use Rattle.laws.proofs.Test.{both-left, both-right}
-use Rattle.plan.specs.Parts.{ITEMS}
-use Rattle.plan.specs.Sequence.{RINGS, Ranged, sequence}
+use Rattle.plan.specs.Sequence.{RINGS, Ranged, sequence, ITEMS}
 use Rattle.plan.proofs.Laws.{length-few}
 use Rattle.plan.specs.declared.Setup.{Setup}
 use Rattle.plan.specs.declared.Item.{Item}

@@ -4,12 +4,12 @@ use mathlib.Core.Path.{_≡_, refl, sym, _∙_}
 use mathlib.Core.List.{List, [], _∷_, _++_}
 use native.Mathlib.Nat.{zero-add, zero-mul, suc-mul, mul-add, sub-zero}
 use native.Mathlib.Omega.{arith}
-use Rattle.plan.specs.Parts.{Made, parts}
+use Rattle.parts.specs.Parts.{Made, parts}
+use Rattle.parts.specs.declared.Template.{Template}
+use Rattle.parts.specs.declared.Template.the-variants.{Write, Read, Change, WaitSet, WaitClear, Pause, Link}
 use Rattle.plan.specs.Sequence.{timesFor, filled, each, forQueue, made, joined, sequence}
 use Rattle.plan.specs.declared.Setup.{Setup}
 use Rattle.plan.specs.declared.Item.{Item}
-use Rattle.plan.specs.declared.Template.{Template}
-use Rattle.plan.specs.declared.Template.the-variants.{Write, Read, Change, WaitSet, WaitClear, Pause, Link}
 use Rattle.startup.specs.Machine.{LINK-ACTIONS, cost, start, Sound}
 use Rattle.startup_laws.specs.Run.{Ends, total, left, waitActions, bound}
 use Rattle.startup_laws.proofs.Keeps.{every-run-ends}

@@ -14,13 +14,13 @@ use Rattle.laws.specs.Test.{pick, both, either, every}
 use Rattle.laws.proofs.Test.{both-left, both-right, every-at}
 use Rattle.card.specs.Registers.{registers, entry, address}
 use Rattle.card.specs.Masks.{CTRL-RST, queueBit, vectorClear, vectorSet}
-use Rattle.plan.specs.Parts.{Made, part, parts, waitForLink, enableMsi, enableMsix}
+use Rattle.parts.specs.Parts.{Made, part, parts, waitForLink, enableMsi, enableMsix}
+use Rattle.parts.specs.declared.Times.the-variants.{Once}
 use Rattle.plan.specs.Sequence.{MSI, MSIX, byKind, forQueue, made, joined, sequence}
 use Rattle.plan.proofs.Highest.{at-reset, at-reset-wait, at-reset-pause}
 use Rattle.plan.specs.declared.Setup.{Setup}
 use Rattle.plan.specs.declared.Interrupts.{Interrupts}
 use Rattle.plan.specs.declared.Interrupts.the-variants.{Off, Kind}
-use Rattle.plan.specs.declared.Times.the-variants.{Once}
 use Rattle.plan.specs.declared.Item.{Item}
 use Rattle.plan.specs.declared.Item.the-variants.{End, Write, Read, Change, WaitClear, Pause, Link}
 use Rattle.startup.specs.declared.Action.the-variants as action

@@ -13,14 +13,14 @@ use Rattle.limits.specs.Limits.{QUEUES}
 use Rattle.laws.specs.Test.{pick}
 use Rattle.card.specs.Registers.{ROWS}
 use Rattle.card.specs.Masks.{linkSpeed}
-use Rattle.plan.specs.Parts.{rowOf}
+use Rattle.parts.specs.Parts.{rowOf}
+use Rattle.parts.specs.declared.Template.{Template}
+use Rattle.parts.specs.declared.Template.the-variants as template
 use Rattle.plan.specs.Sequence.{Ranged, sequence, filled}
 use Rattle.plan.proofs.Laws.{masked, of-inside, of-every}
 use Rattle.plan.specs.declared.Setup.{Setup}
 use Rattle.plan.specs.declared.Item.{Item}
 use Rattle.plan.specs.declared.Item.the-variants.{End, Write, Read, Change, WaitSet, WaitClear, Pause, Link}
-use Rattle.plan.specs.declared.Template.{Template}
-use Rattle.plan.specs.declared.Template.the-variants as template
 use Rattle.startup.specs.declared.Action.{Action}
 use Rattle.startup.specs.declared.Action.the-variants as action
 use Rattle.startup.specs.declared.State.{State}

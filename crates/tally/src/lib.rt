@@ -44,7 +44,7 @@ fn all_pending(sends: usize, clean: [usize; SENDS], tx: [usize; SENDS]) -> usize
 {
     let mut all = 0;
     for q in 0..sends {
-        all = all + packets::pending(tx[q], clean[q]);
+        all = all + lists::pending(tx[q], clean[q]);
     }
     all
 }

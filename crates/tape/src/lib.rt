@@ -1,7 +1,7 @@
 // What the records of a start-up tape mean: a set-up, or values read. docs/BOOT.md has the format.
 // The program `boot` reads a tape, plays it by these functions and prints what they answer.
 ghost use mathlib.Core.Path.{_≡_};
-ghost use Prim.Native.Nat.{_+_, _*_, _≤_, _<_};
+ghost use Prim.Native.Nat.{_+_, _*_, _≤_};
 ghost use lib.ListN.{length};
 ghost use Rattle.plan.specs.Sequence.{RINGS};
 ghost use Rattle.tape.specs.Tape.{recordOf, SET-UP-BYTES, addressCount, addressesIn, interruptsOf, opened, shownBy, mixed, tallied};

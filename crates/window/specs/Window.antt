@@ -3,7 +3,7 @@ use Prim.Native.Nat.{ℕ, _+_, _-_, _/_, _%_, _≤_, _<_}
 use mathlib.Core.Path.{_≡_}
 use mathlib.Core.Bool.{Bool, true, false, not}
 use mathlib.Core.List.{List, [], _∷_, _++_}
-use lib.ListN.{length, getD, set, take, drop, replicate}
+use lib.ListN.{getD, set, take, drop, replicate}
 use lib.Dec.{eqb, ltb, leb}
 use Rattle.limits.specs.Limits.{FEWEST-RATES, MOST-RATES, CLOCK-CALLS}
 use Rattle.laws.specs.Test.{pick, both, either}

@@ -3,9 +3,9 @@
 // Ported from rx_batch of src/ixgbe.rs (the counter) and check_interrupt of src/interrupts.rs.
 ghost use mathlib.Core.Path.{_≡_};
 ghost use mathlib.Core.Bool.{true};
-ghost use Prim.Native.Nat.{_+_, _*_, _^_, _≤_, _<_};
+ghost use Prim.Native.Nat.{_*_, _^_, _≤_, _<_};
 ghost use lib.ListN.{take};
-ghost use Rattle.limits.specs.Limits.{FEWEST-RATES, MOST-RATES};
+ghost use Rattle.limits.specs.Limits.{MOST-RATES};
 ghost use Rattle.window.specs.Window.{total, inRange, sound, Sound, opened, newCall, tickCall, isFull, slid, withRate, ratedCall};
 use limits::CLOCK_CALLS;
 use limits::FEWEST_RATES;

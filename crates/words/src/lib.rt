@@ -1,6 +1,6 @@
 // Little-endian words at a place of a byte slice, and the words of a ring's slots. Ported from the descriptor accesses of src/ixgbe.rs.
 ghost use mathlib.Core.Path.{_≡_};
-ghost use Prim.Native.Nat.{_+_, _≤_, _<_, _*_, _^_};
+ghost use Prim.Native.Nat.{_+_, _≤_, _*_, _^_};
 ghost use lib.ListN.{length};
 ghost use Rattle.limits.specs.Limits.{SMALLEST-SIZE, SIZE-DOUBLINGS};
 ghost use Rattle.words.specs.Le.{leAt, putLe, addressPlus};

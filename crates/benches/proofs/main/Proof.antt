@@ -1,5 +1,5 @@
 -- `benches::main` is safe and ends: the measure is the streams that can still be counted. Assumes nothing.
-use Prim.Native.Nat.{_-_, _≤_}
+use Prim.Native.Nat.{_-_}
 use native.Mathlib.Omega.{arith}
 use borrow.Author.Needs.{needs}
 use Rattle.benches.proofs.main.Statement.{statement}

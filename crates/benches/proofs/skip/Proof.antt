@@ -1,6 +1,5 @@
 -- `benches::skip` is safe and ends: the measure is the bytes that are left. Assumes nothing.
 use native.Mathlib.Omega.{arith}
-use borrow.Author.Needs.{needs}
 use Rattle.benches.proofs.skip.Statement.{statement}
 use Rattle.benches.proofs.skip.Tie as tie
 

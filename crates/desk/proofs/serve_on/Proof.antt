@@ -1,7 +1,7 @@
 -- `desk::serve_on` is safe and ends: what holds between two reads is `Standing`, and the measure is the records that can still be counted.
 -- Assumes nothing.
 use Prim.Native.Nat.{_-_, _^_}
-use mathlib.Core.Path.{_≡_, refl, sym, _∙_}
+use mathlib.Core.Path.{refl, sym, _∙_}
 use mathlib.Core.Bool.{not}
 use native.Mathlib.Omega.{arith}
 use lib.Dec.{ltb}

@@ -4,7 +4,6 @@ use mathlib.Core.Path.{_≡_, _∙_}
 use mathlib.Core.List.{[], _∷_}
 use native.Mathlib.Omega.{arith}
 use lib.ListN.{take}
-use lib.Seq.{take-take}
 use borrow.Author.Needs.{needs}
 use Rattle.lines.specs.Lines.{spelled}
 use Rattle.lines.proofs.Text.{joined}
@@ -20,14 +19,8 @@ digits-few : (c : tie.After-decimal) → c .decimal .result ≤ 20
 digits-few c = few (c .before .before .before .args .n) (c .decimal .result) (omega arith) (c .decimal .ensures .1 .0)
 
 -- what is copied is the number, spelled
-digits-spell : (c : tie.After-decimal)
-    → take (c .decimal .result) (take (c .decimal .result) (c .decimal .last .1 .0)) ≡ spelled (c .before .before .before .args .n)
-digits-spell c =
-    let args = c .before .before .before .args in
-    let made = c .decimal in
-    take-take (made .result) (made .result) (made .last .1 .0) (omega arith)
-    ∙ made .ensures .1 .1
-    ∙ spells (args .n) (made .result) (omega arith) (made .ensures .1 .0)
+digits-spell : (c : tie.After-decimal) → take (c .decimal .result) (c .decimal .last .1 .0) ≡ spelled (c .before .before .before .args .n)
+digits-spell c = c .decimal .ensures .1 .1 ∙ spells (c .before .before .before .args .n) (c .decimal .result) (omega arith) (c .decimal .ensures .1 .0)
 
 array-share-prefix-text : tie.Need-array-share-prefix-text
 array-share-prefix-text c = search needs

@@ -1,9 +1,10 @@
--- `lines::put_text` is safe and ends, and the text's first bytes stand behind what stood there. Assumes nothing.
+-- `lines::put_text` is safe and ends, and the text stands behind what stood there. Assumes nothing.
 use Prim.Native.Nat.{_+_, _-_, _≤_}
 use mathlib.Core.Path.{_≡_, refl}
 use mathlib.Core.List.{_++_, append-nil}
 use native.Mathlib.Nat.{add-zero}
 use lib.ListN.{length, take, length-set}
+use lib.Seq.{take-length}
 use native.Mathlib.Omega.{arith}
 use Rattle.lines.proofs.Text.{copied}
 use Rattle.lines.proofs.put_text.Statement.{statement}
@@ -48,8 +49,9 @@ same-length c = omega arith
 
 returns : tie.Need-returns Inv-loop μ-loop
 returns c =
-    let all : c .before .loop .i ≡ c .before .before .args .count = omega arith in
-    (refl, rw all at (c .before .loop .inv .2))
+    let args = c .before .before .args in
+    let all : c .before .loop .i ≡ length (args .text .now) = omega arith in
+    (refl, rw (all, take-length (args .text .now)) at (c .before .loop .inv .2))
 
 pub put-text-spec : {M : Type 1} → statement M
 put-text-spec =

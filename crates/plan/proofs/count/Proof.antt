@@ -2,7 +2,7 @@
 use Prim.Native.Nat.{_-_}
 use native.Mathlib.Omega.{arith}
 use borrow.Author.Needs.{needs}
-use Rattle.plan.specs.Parts.{PARTS}
+use Rattle.parts.specs.Parts.{PARTS}
 use Rattle.plan.proofs.Laws.{Turn, Counted, count-start, count-end, few, turn-counted}
 use Rattle.plan.proofs.count.Statement.{statement}
 use Rattle.plan.proofs.count.Tie as tie

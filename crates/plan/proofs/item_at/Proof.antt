@@ -3,7 +3,7 @@ use Prim.Native.Nat.{_-_}
 use mathlib.Core.Path.{sym, _∙_}
 use native.Mathlib.Omega.{arith}
 use borrow.Author.Needs.{needs}
-use Rattle.plan.specs.Parts.{PARTS}
+use Rattle.parts.specs.Parts.{PARTS}
 use Rattle.plan.proofs.Laws.{Here, here-start, here-end, Turn, named, few, some, in-part, a-queue, turn-found, turn-next}
 use Rattle.plan.proofs.item_at.Statement.{statement}
 use Rattle.plan.proofs.item_at.Tie as tie

@@ -10,7 +10,7 @@ use lib.ListN.{getD}
 use Rattle.laws.specs.Test.{every}
 use Rattle.laws.proofs.Test.{every-at}
 use Rattle.card.specs.Registers.{ROWS}
-use Rattle.plan.proofs.Lists.{at-map}
+use Rattle.parts.proofs.Lists.{at-map}
 use Rattle.startup.specs.declared.Action.the-variants.{Read, Done}
 use Rattle.service.specs.Actions.{plain, counters, counterActions, countersCall}
 use Rattle.service.proofs.Lists.{past}

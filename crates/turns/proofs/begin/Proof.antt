@@ -1,8 +1,6 @@
 -- `turns::begin` meets its contract: the fresh account is taken only if it answers 0, and then it is sound. Assumes nothing.
-use mathlib.Core.Path.{sym, _∙_, ap}
 use borrow.Author.Needs.{needs}
 use borrow.Author.Tests.{eq-eqb, ne-eqb}
-use Rattle.tally.specs.declared.Answer.{Answer}
 use Rattle.turns.proofs.begin.Statement.{statement}
 use Rattle.turns.proofs.begin.Tie as tie
 

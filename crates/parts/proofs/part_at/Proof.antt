@@ -1,9 +1,9 @@
--- `plan::part_at` meets its contract: stretch by stretch. Assumes nothing.
+-- `parts::part_at` meets its contract: stretch by stretch. Assumes nothing.
 use borrow.Author.Needs.{needs}
 use mathlib.Core.Path.{sym, _∙_}
-use Rattle.plan.proofs.Rows.{in-reset, in-receive, in-send, in-start}
-use Rattle.plan.proofs.part_at.Statement.{statement}
-use Rattle.plan.proofs.part_at.Tie as tie
+use Rattle.parts.proofs.Rows.{in-reset, in-receive, in-send, in-start}
+use Rattle.parts.proofs.part_at.Statement.{statement}
+use Rattle.parts.proofs.part_at.Tie as tie
 
 reset-row-requires : tie.Need-reset-row-requires
 reset-row-requires c κs = search needs

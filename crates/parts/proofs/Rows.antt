@@ -4,8 +4,8 @@ use mathlib.Core.Path.{_≡_, _∙_}
 use mathlib.Core.List.{_++_}
 use native.Mathlib.Omega.{arith}
 use lib.ListN.{getD, List·getD-append}
-use Rattle.plan.specs.Parts.{resetParts, receiveParts, sendParts, startParts, parts, rowsOf, partRows, noPart}
-use Rattle.plan.proofs.Lists.{at-right}
+use Rattle.parts.specs.Parts.{resetParts, receiveParts, sendParts, startParts, parts, rowsOf, partRows, noPart}
+use Rattle.parts.proofs.Lists.{at-right}
 
 module _ (i : ℕ) where
   pub in-reset : i < 6 → getD partRows i noPart ≡ getD (rowsOf resetParts) i noPart

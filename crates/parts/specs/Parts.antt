@@ -1,17 +1,17 @@
 -- The sequence's templates in the Rust's order: a list for each part under the datasheet's section that asks for it, and the list of parts.
 -- To be held beside reset_and_init; a part that a queue loop makes is written once.
-use Prim.Native.Nat.{ℕ, _-_, _*_}
+use Prim.Native.Nat.{ℕ, _-_}
 use mathlib.Core.List.{List, [], _∷_, _++_, map}
 use lib.ListN.{length, getD}
-use Rattle.limits.specs.Limits.{QUEUES, SLOTS, RING-BYTES}
+use Rattle.limits.specs.Limits.{SLOTS, RING-BYTES}
 use Rattle.card.specs.Registers.{EIMS, EIMC, EICR, CTRL, RAL, RAH, EEC, RDRXCTL, AUTOC, GPRC, GPTC, GORCL, GORCH, GOTCL, GOTCH, RXCTRL, RXPBSIZE, HLREG0, FCTRL, SRRCTL, RDBAL, RDBAH, RDLEN, RDH, RDT, CTRL-EXT, DCA-RXCTRL, TXPBSIZE, DTXMXSZRQ, RTTDCS, TDBAL, TDBAH, TDLEN, TXDCTL, DMATXCTL, RXDCTL, TDH, TDT, IVAR, EIAC, EITR, GPIE, LINKS}
 use Rattle.card.specs.Masks.{IRQ-ALL, CTRL-RST, EEC-ARD, RDRXCTL-DMAIDONE, AUTOC-LMS, AUTOC-LMS-10G-SERIAL, AUTOC-10G, AUTOC-10G-XAUI, AUTOC-RESTART, RXCTRL-RXEN, RXPBSIZE-128KB, HLREG0-RXCRCSTRP, RDRXCTL-CRCSTRIP, RDRXCTL-RSCFRSTSIZE, RDRXCTL-RSC, FCTRL-BAM, SRRCTL-DESCTYPE, SRRCTL-ONEBUF, SRRCTL-DROP, CTRL-EXT-NS-DIS, DCA-RXCTRL-12, FCTRL-PROMISC, HLREG0-SEND, TXPBSIZE-40KB, DTXMXSZRQ-MOST, RTTDCS-ARBDIS, TXDCTL-THRESHOLDS, TXDCTL-USUAL, DMATXCTL-ON, RXDCTL-ENABLE, TXDCTL-ENABLE, GPIE-MSIX, IRQ-QUEUES}
-use Rattle.plan.specs.declared.Part.{Part}
-use Rattle.plan.specs.declared.Value.the-variants.{Is, FirstOnly, ReceiveLow, ReceiveHigh, SendLow, SendHigh, Rate, QueueBit, VectorClear, VectorZero, VectorQueue}
-use Rattle.plan.specs.declared.Template.{Template}
-use Rattle.plan.specs.declared.Template.the-variants.{Write, Read, Change, WaitSet, WaitClear, Pause, Link}
-use Rattle.plan.specs.declared.Times.{Times}
-use Rattle.plan.specs.declared.Times.the-variants.{Once, Buffer, Receive, Send, MsiQueue, MsixQueue}
+use Rattle.parts.specs.declared.Part.{Part}
+use Rattle.parts.specs.declared.Value.the-variants.{Is, FirstOnly, ReceiveLow, ReceiveHigh, SendLow, SendHigh, Rate, QueueBit, VectorClear, VectorZero, VectorQueue}
+use Rattle.parts.specs.declared.Template.{Template}
+use Rattle.parts.specs.declared.Template.the-variants.{Write, Read, Change, WaitSet, WaitClear, Pause, Link}
+use Rattle.parts.specs.declared.Times.{Times}
+use Rattle.parts.specs.declared.Times.the-variants.{Once, Buffer, Receive, Send, MsiQueue, MsixQueue}
 
 -- the tail of a full ring: its last slot
 abbrev pub LAST-SLOT : ℕ
@@ -265,10 +265,6 @@ PARTS = 23
 -- no part has more templates
 abbrev pub TEMPLATES : ℕ
 TEMPLATES = 8
-
--- no sequence has more items
-abbrev pub ITEMS : ℕ
-ITEMS = PARTS * (QUEUES * TEMPLATES)
 
 abbrev pub noPart : Part
 noPart = record { times = Once; len = 0 }
