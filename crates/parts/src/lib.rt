@@ -1,4 +1,4 @@
-// specs/Parts.antt has the sequence, under the datasheet's sections; a constant array here is a part of it.
+// The parts of the start-up as tables: specs/Parts.antt has them under the datasheet's sections, and a constant array here is one of them.
 ghost use mathlib.Core.Path.{_≡_};
 ghost use Prim.Native.Nat.{_<_, _≤_};
 ghost use lib.ListN.{length, getD};
