@@ -52,7 +52,7 @@ def random_record(rng, s):
         s.addresses(at, *[rng.randrange(2**64) for _ in range(rng.randrange(6))])
     elif pick < 4:
         receives, sends = number(rng, 0, 1, 2, 16), number(rng, 0, 1, 3)
-        asked, kind, count = rng.choice((0, 1, 1, 65535)), number(rng, 1, 2), min(PLACES, max(0, receives + sends + rng.choice((0, 0, 0, 1, -1))))
+        asked, kind, count = rng.choice((0, 1, 1, 65535)), number(rng, 1, 2), min(PLACES - 1, max(0, receives + sends + rng.choice((0, 0, 0, 1, -1))))
         s.add("set-up", number(rng, MAP, EEC + 3, RAL + 4), receives, sends, number(rng, 1, 2, 3, 10000), asked, kind, word32(rng), count)
     elif pick < 14:
         if rng.random() < 0.8 and (s.model.state.kept or not s.model.state.sound()):

@@ -76,7 +76,7 @@ def set_ups(s):
     """Every number of a set-up, each limit met and passed, and which number comes first."""
     s.addresses(0, *[(0xA1B2C300 + 7 * i) << 32 | 0xD4E5F600 + 11 * i for i in range(128)])
     s.addresses(PLACES - 1, U64)
-    s.addresses(PLACES)
+    s.addresses(PLACES - 1)
     for receives, sends, tries in ((65, 0, 1), (0, 65, 1), (0, 0, 0), (0, 0, 10001), (WIDE, 0, 1), (0, WIDE + 1, 1), (0, 0, WIDE + 1), (U64, U64, U64)):
         s.set_up(receives, sends, tries, count=200)
         s.add("step", 0)
@@ -92,7 +92,7 @@ def set_ups(s):
             s.add("step", 0)
     s.set_up(65, 1, kind=0, count=0)
     s.set_up(17, 1, kind=0, count=17)
-    s.set_up(17, 64, kind=1, count=PLACES)
+    s.set_up(17, 64, kind=1, count=PLACES - 1)
     s.set_up(17, 1, kind=None)
     for asked in (0, 1, 256, 65535):
         s.add("set-up", MAP, 1, 1, 1, asked, 3, 0, 2)

@@ -2,9 +2,12 @@
 and compares every line with the model's. It prints how often each call answered what, and ends with status 1 if a line differs:
 
     rt check replay && python3 tools/replay_compare.py target/bin/replay 20 10000
+    bash tools/replay_host.sh && python3 tools/replay_compare.py target/replay_host 20 10000 --memory 67108865
 
-The numbers are how many random streams, and of how many records each; a third is the first seed.
+The numbers are how many random streams, and of how many records each; a third is the first seed. With --memory the program is a host that is
+told so how much packet memory to lend, and the stored stream is the host's.
 """
+import argparse
 import collections
 import itertools
 import struct
@@ -14,7 +17,7 @@ import sys
 from replay_model import ARRAYS, KINDS, MEMORY, lines
 from replay_random import chance
 from replay_records import KIND, packed
-from replay_streams import stored
+from replay_streams import HOSTED, hosted, stored
 from rounds_model import RING
 
 
@@ -23,30 +26,26 @@ def raw(kind, body, size=None):
     return struct.pack("<HH", len(body) + 2 if size is None else size, kind) + body
 
 
-def outside():
+def outside(memory):
     """Records that name bytes or places outside what is kept."""
-    lent = {"batch": (1, 8), "receive": (0, 0, RING, 5, 1), "send": (0, 1, RING, 5)}
-    for word, given in lent.items():
-        for k in range(4):
-            yield packed(word, *given, *[5001 if k == held else 5 for held in range(4)])
     for word, rest in (("start", ()), ("receive", (1, 1, 1, 1, 1)), ("send", (1, 1, 1, 1))):
-        for ring, size, entries in ((5, RING, 5), (5, 0, 5), (65535, RING, 5), (0, 2 * RING + 1, 5), (4, 65535, 5), (0, RING, 5001)):
+        for ring, size, entries in ((5, RING, 5), (5, 0, 5), (65535, RING, 5)):
             yield packed(word, 0, ring, size, entries, *rest)
-    for size in (MEMORY + 1, 2**32 - 1):
+    for size in (memory + 1, 2**32 - 1):
         yield packed("clone", 7, 0, 32, 8, size)
         yield packed("view", 7, 0, 32, 8, size)
         yield packed("headroom", 7, 0, 32, 8, 1, size, 1)
-    for ring, at, count in ((5, 0, 0), (5, 0, 1), (0, 2 * RING, 1), (4, 2 * RING - 1, 2), (0, 2 * RING + 1, 0), (3, 65535, 1)):
+    for ring, at, count in ((5, 0, 0), (5, 0, 1), (0, 65535, 2), (4, 65535, 2), (3, 65533, 4), (65535, 0, 0)):
         yield packed("ring", ring, at, [1] * count)
-    for held, at, count in ((4, 0, 0), (4, 0, 1), (65535, 0, 1), (0, 5000, 1), (1, 5001, 0), (2, 4999, 2), (3, 65535, 1)):
+    for held, at, count in ((4, 0, 0), (4, 0, 1), (65535, 0, 1), (0, 65535, 2), (1, 65535, 2), (2, 65534, 3), (3, 65535, 2)):
         yield packed("list", held, at, [1] * count)
         yield packed("places", held, at, count)
-    for at, count in ((5000, 1), (5001, 0), (4999, 2), (65535, 1)):
+    for at, count in ((65535, 2), (65534, 3), (60000, 8000)):
         yield packed("addresses", at, [1] * count)
-    for at, count in ((MEMORY, 1), (MEMORY + 1, 0), (MEMORY - 1, 2), (2**32 - 1, 1)):
+    for at, count in ((memory, 1), (memory + 1, 0), (max(memory, 1) - 1, 2), (2**32 - 1, 1)):
         yield packed("memory", at, [1] * count)
         yield packed("bytes", at, count)
-    for ring, slot in ((5, 0), (0, 1024), (4, 65535), (65535, 1)):
+    for ring, slot in ((5, 0), (0, 4096), (4, 65535), (65535, 1)):
         yield packed("slot", ring, slot)
 
 
@@ -66,13 +65,11 @@ def forged():
 
 
 def no_registers():
-    """Places that a start-up state or a window does not have, and a set-up lent more addresses than there are."""
+    """Places that a start-up state or a window does not have."""
     for field, place in ((10, 0), (6, 128), (0, 1), (9, 1), (65535, 0), (6, 65535)):
         yield packed("forge-state", field, place, 0)
     for field, place in ((8, 0), (7, 64), (0, 1), (6, 1), (65535, 0), (7, 65535)):
         yield packed("forge-window", field, place, 0)
-    for count in (5001, 65535):
-        yield packed("set-up", 0x20000, 1, 1, 1, 0, 0, 0, count)
 
 
 def misframed():
@@ -95,10 +92,10 @@ def misframed():
     yield from (bytes([2, 0, 2, 0][:n]) for n in (1, 2, 3))
 
 
-def bad_streams():
+def bad_streams(memory):
     """A stream for each record that is not good. Where it is not cut, a good record follows it, which prints nothing."""
     first = packed("fresh", 7, 5, 64, 1, 4) + packed("take", 8)
-    for record in itertools.chain(outside(), forged(), no_registers()):
+    for record in itertools.chain(outside(memory), forged(), no_registers()):
         yield first + record + packed("sound")
     for record in misframed():
         yield first + record
@@ -110,10 +107,10 @@ def shown(line):
     return (word, answer[0]) if word in KIND and KIND[word][0] < 15 else (word, "")
 
 
-def compared(program, stream, answers):
+def compared(command, memory, stream, answers):
     """Whether the program prints of a stream what the model does."""
-    out = subprocess.run([program], input=bytes(stream), stdout=subprocess.PIPE, check=True).stdout.decode().splitlines()
-    asked = list(lines(bytes(stream)))
+    out = subprocess.run(command, input=bytes(stream), stdout=subprocess.PIPE, check=True).stdout.decode().splitlines()
+    asked = list(lines(bytes(stream), memory))
     answers.update(map(shown, asked))
     for k, (one, other) in enumerate(itertools.zip_longest(out, asked)):
         if one != other:
@@ -122,15 +119,16 @@ def compared(program, stream, answers):
     return True
 
 
-def main(program, count, size, seed=1000):
+def main(given):
+    command, memory = ([given.program], MEMORY) if given.memory is None else ([given.program, str(given.memory)], given.memory)
     answers, differ = collections.Counter(), 0
     for name, streams in (
-        ("stored", [stored()]),
+        ("stored", [stored()] if memory == MEMORY else [hosted()] if memory == HOSTED else []),
         ("empty", [b""]),
-        ("not good", bad_streams()),
-        ("random", (chance(seed + k, size) for k in range(count))),
+        ("not good", bad_streams(memory)),
+        ("random", (chance(given.seed + k, given.size, memory) for k in range(given.count))),
     ):
-        results = [compared(program, stream, answers) for stream in streams]
+        results = [compared(command, memory, stream, answers) for stream in streams]
         print(f"{name}: {len(results)} streams, {results.count(False)} differ, {sum(answers.values())} lines so far", flush=True)
         differ += results.count(False)
     for (word, answer), often in sorted(answers.items()):
@@ -139,4 +137,10 @@ def main(program, count, size, seed=1000):
 
 
 if __name__ == "__main__":
-    sys.exit(main(sys.argv[1], *map(int, sys.argv[2:])))
+    words = argparse.ArgumentParser()
+    words.add_argument("program")
+    words.add_argument("count", type=int)
+    words.add_argument("size", type=int)
+    words.add_argument("seed", type=int, nargs="?", default=1000)
+    words.add_argument("--memory", type=int)
+    sys.exit(main(words.parse_args()))

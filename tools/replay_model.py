@@ -2,7 +2,7 @@
 
     python3 tools/replay_model.py < crates/replay/stdin | cmp - crates/replay/stdout
 
-The rules of rings and soundness are those of rounds_model.py, the registers' calls those of registers_model.py. What document 01 leaves open is
+A number says how many bytes of packet memory there are, if not as many as `replay` has. The rules of rings and soundness are those of rounds_model.py, the registers' calls those of registers_model.py. What document 01 leaves open is
 taken from docs/DECISIONS.md: what a refused call answers (D2, D3), how many handles a send has (D8), an oversize batch (D9), a clone of a long
 frame (D10).
 """
@@ -10,9 +10,10 @@ import struct
 import sys
 
 import registers_model
-from rounds_model import RING, Account, Refused, batch, digest, good, need, receive, send, start
+from rounds_model import Account, Refused, batch, digest, good, need, receive, send, start
 
-RINGS, PLACES, MEMORY = 5, 5000, 2**22
+RINGS, ROOM, PLACES = 5, 2**16, 2**16
+MEMORY = 2**22  # the packet memory of `replay`; a host may lend any other
 
 # a kind's word, the numbers of its body, and the bytes of each place that it sets
 KINDS = {
@@ -72,13 +73,13 @@ def in_range(entries, size, receives, sends):
 class Host:
     """What `replay` keeps, and a method for each kind of record, whose answer is the rest of its line."""
 
-    def __init__(self):
+    def __init__(self, memory=MEMORY):
         self.a = Account(0, 0, 0, 0, 0)
         self.a.ids = [0] * 4096
-        self.rings = [bytearray(2 * RING) for _ in range(RINGS)]
+        self.rings = [bytearray(ROOM) for _ in range(RINGS)]
         self.lists = [[0] * PLACES for _ in range(4)]
         self.bank = [0] * PLACES
-        self.packets = bytearray(MEMORY)
+        self.packets = bytearray(memory)
         self.registers = registers_model.Registers(self.bank)
 
     # ---- what lines have in common
@@ -184,7 +185,7 @@ class Host:
         return self.tried(call, [pool, number, offset, length])
 
     def clone(self, pool, number, offset, length, size):
-        sure(size <= MEMORY)
+        sure(size <= len(self.packets))
 
         def call():
             need(self.a.sound(), 1)
@@ -198,7 +199,7 @@ class Host:
         return self.tried(call, [0] * 4) + self.totals()
 
     def view(self, pool, number, offset, length, size):
-        sure(size <= MEMORY)
+        sure(size <= len(self.packets))
 
         def call():
             need(self.a.sound(), 1)
@@ -210,7 +211,7 @@ class Host:
         return self.tried(call, [0, 0])
 
     def headroom(self, pool, number, offset, length, asked, size, fill):
-        sure(size <= MEMORY)
+        sure(size <= len(self.packets))
 
         def call():
             need(self.a.sound(), 1)
@@ -344,9 +345,9 @@ def records(stream):
         at += 2 + size if whole else len(stream)
 
 
-def lines(stream):
-    """What is printed of a stream."""
-    host = Host()
+def lines(stream, memory=MEMORY):
+    """What is printed of a stream, with so much packet memory."""
+    host = Host(memory)
     for number, record in enumerate(records(stream), 1):
         try:
             sure(record)
@@ -357,5 +358,5 @@ def lines(stream):
 
 
 if __name__ == "__main__":
-    for line in lines(sys.stdin.buffer.read()):
+    for line in lines(sys.stdin.buffer.read(), *map(int, sys.argv[1:])):
         print(line)

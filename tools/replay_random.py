@@ -11,8 +11,8 @@ from rounds_model import RING
 class Chance(Registers):
     """Random records, most of them such that something happens."""
 
-    def __init__(self, seed):
-        super().__init__()
+    def __init__(self, seed, memory=MEMORY):
+        super().__init__(memory)
         self.dice, self.undo = random.Random(seed), None
 
     def often(self, usual, *others):
@@ -24,7 +24,8 @@ class Chance(Registers):
         d = self.dice
         entries = d.choice((5, 9, 40, 511, 512, 520, 530, 560, 700, 1024))
         sends, pool = d.choice((1, 2, 4, 4, 0)), d.choice((7, 2**32 - 1))
-        self.fresh(self.often(entries, 0, 4097, FAR), d.choice((64, 128)), self.often(1, 0, 2), sends, pool)
+        size = d.choice((64, 128) if self.room <= MEMORY else (64, 128, 0, 4096, 16384))
+        self.fresh(self.often(entries, 0, 4096, 4097, FAR), size, self.often(1, 0, 2), sends, pool)
         self.undo = None
         if not self.a.sound():
             each_call(self)
@@ -47,14 +48,14 @@ class Chance(Registers):
         return (self.often(self.a.pool, self.a.pool ^ 1, 0), number, offset, min(length, 65535))
 
     def entries(self):
-        here = min(self.a.entries, 4999)
+        here = min(self.a.entries, 65534)
         return self.often(here, here + 1, max(0, here - 1), 0)
 
     def size(self):
-        return self.often(RING, RING - 1, RING + 1, 0, 2 * RING)
+        return self.often(RING, RING - 1, RING + 1, 0, 2 * RING, 65535)
 
     def rooms(self, n):
-        return [self.often(n, max(0, n - 1), n + 1, 5000) for _ in range(4)]
+        return [self.often(n, max(0, n - 1), n + 1, 5000, 65535) for _ in range(4)]
 
     def card_receives(self):
         """The card writes some frames from the rx index on."""
@@ -88,9 +89,9 @@ class Chance(Registers):
 
     def on_memory(self):
         """A view, a clone or a headroom."""
-        size = min(self.memory(), MEMORY)
+        size = min(self.memory(), self.room)
         word = self.dice.choice(("view", "clone", "headroom"))
-        lent = self.often(size, max(0, size - 1), min(size + 1, MEMORY), 0)
+        lent = self.often(size, max(0, size - 1), min(size + 1, self.room), 0, self.room)
         if word == "headroom":
             asked = self.often(self.dice.randrange(33), 32, 33, FAR)
             return self.add(word, *self.handle(), asked, lent, self.dice.randrange(256))
@@ -116,14 +117,15 @@ class Chance(Registers):
         """A look at something."""
         d = self.dice
         word = d.choice(("account", "account", "slot", "places", "bytes", "array", "counts", "sound"))
-        given = {"slot": (d.randrange(5), d.randrange(1024)), "places": (d.randrange(4), d.randrange(70), d.randrange(9))}
-        given |= {"bytes": (d.randrange(40000), d.randrange(40)), "array": (d.randrange(8, 12), d.randrange(500), d.randrange(9))}
+        given = {"slot": (d.randrange(5), d.choice((d.randrange(520), d.randrange(4096)))), "places": (d.randrange(4), d.randrange(70), d.randrange(9))}
+        at = d.randrange(min(40000, self.room) + 1)
+        given |= {"bytes": (at, min(d.randrange(40), self.room - at)), "array": (d.randrange(8, 12), d.randrange(500), d.randrange(9))}
         self.add(word, *given.get(word, ()))
 
     def filling(self):
         """Some bytes of packet memory."""
-        d = self.dice
-        self.add("memory", d.randrange(max(1, min(self.memory(), MEMORY - 64))), d.randbytes(d.randrange(1, 64)))
+        at = self.dice.randrange(min(self.memory(), self.room) + 1)
+        self.add("memory", at, self.dice.randbytes(min(self.dice.randrange(1, 64), self.room - at)))
 
     def turn(self):
         """A few records of one sort."""
@@ -156,8 +158,8 @@ class Chance(Registers):
         self.look()
 
 
-def chance(seed, count):
+def chance(seed, count, memory=MEMORY):
     """Random records alone."""
-    s = Chance(seed)
+    s = Chance(seed, memory)
     s.chances(count)
     return bytes(s.bytes)

@@ -23,8 +23,8 @@ def packed(word, *values):
 class Stream:
     """A stream that grows by good records, and the model after them."""
 
-    def __init__(self):
-        self.bytes, self.count, self.host = bytearray(), 0, Host()
+    def __init__(self, memory=MEMORY):
+        self.bytes, self.count, self.host = bytearray(), 0, Host(memory)
 
     @property
     def a(self):
@@ -44,7 +44,7 @@ class Stream:
 
     def banks(self, first=0xFFFF_FFFF_FFFF_F000, step=64):
         """An address for each entry; they pass 2^64."""
-        self.add("addresses", 0, [(first + step * k) % 2**64 for k in range(min(self.a.entries, 5000))])
+        self.add("addresses", 0, [(first + step * k) % 2**64 for k in range(min(self.a.entries, 8190))])
 
     def start(self, q=0, ring=0, size=RING, entries=None):
         return self.add("start", q, ring, size, self.a.entries if entries is None else entries)
@@ -71,6 +71,11 @@ class Stream:
         """What the card writes at a send slot."""
         self.add("ring", ring, slot * 16 + 12, [bit])
 
+    @property
+    def room(self):
+        """The packet memory that there is."""
+        return len(self.host.packets)
+
     def memory(self):
         """The packet memory that the account asks for."""
         return self.a.entries * self.a.size
@@ -92,8 +97,8 @@ class Stream:
 
 def each_call(s, handle=(7, 0, 32, 8)):
     """One record of each call, with arguments that suit the account."""
-    size = min(s.memory(), MEMORY)
-    entries = min(s.a.entries, 5000)
+    size = min(s.memory(), s.room)
+    entries = min(s.a.entries, 65535)
     s.add("counts")
     s.add("take", 8)
     s.add("batch", 1, 8, 8, 8, 8, 8)

@@ -1,25 +1,30 @@
-"""Streams of records for the program `replay` (docs/REPLAY.md). The stored one, or a random one by its seed and number of records:
+"""Streams of records for the program `replay` (docs/REPLAY.md). The stored one, the stored one for a host that lends more packet memory, or a
+random one by its seed and number of records:
 
-    python3 tools/replay_streams.py > crates/replay/stdin
+    python3 tools/replay_streams.py stored > crates/replay/stdin
+    python3 tools/replay_streams.py hosted > .ci/hosted.stdin
     python3 tools/replay_streams.py 7 20000 > stream
 """
 import sys
 
 import registers_streams
-from replay_model import ARRAYS, MEMORY, NUMBERS
+from replay_model import ARRAYS, NUMBERS
 from replay_random import Chance, chance
 from replay_records import FAR, each_call, packed, value_of
 from rounds_model import RING
+
+# what a host lends of packet memory: one byte more than the largest pool has
+HOSTED = 4096 * 16384 + 1
 
 
 def blank(s):
     """Before the first fresh everything is 0."""
     s.look()
     each_call(s)
-    s.slots(0, 0, 1023)
-    s.slots(4, 0, 1023)
+    s.slots(0, 0, 4095)
+    s.slots(4, 0, 4095)
     s.held(3)
-    s.add("bytes", MEMORY - 3, 3)
+    s.add("bytes", s.room - 3, 3)
     for field in ARRAYS:
         s.add("array", field, 0, 4)
     s.look()
@@ -115,7 +120,7 @@ def batches(s):
         s.batch(n, rooms=(9, 9, 9, 9))
         s.batch(0)
         s.look()
-    s.batch(0, rooms=(5000, 5000, 5000, 5000))
+    s.batch(0, rooms=(5000, 5000, 65535, 65535))
     s.fresh(4096)
     s.batch(4096, 16)
     for at in (0, 2000, 4000):
@@ -130,7 +135,7 @@ def memories(s):
     for size in (16, 32):
         s.add("take", size)
     good, bad = (7, 3, 32, 16), (7, 0, 32, 16)
-    for size in (0, 255, 257, 64, 4096, MEMORY):
+    for size in (0, 255, 257, 64, 4096, s.room):
         for handle in (good, bad):
             s.add("clone", *handle, size)
             s.add("view", *handle, size)
@@ -146,22 +151,28 @@ def memories(s):
     s.look()
 
 
+def large_memory(s, entries, size):
+    """A pool's entries at the end of its packet memory, full packets, and the memory one too short, one too long and all that there is."""
+    s.fresh(entries, size)
+    size, last, whole = s.a.size, entries - 1, s.memory()
+    s.add("take", size - 32)
+    s.add("memory", whole - size, [k * 11 % 256 for k in range(size)])
+    handle = (7, last, 32, size - 32)
+    for memory in (whole, whole - 1, min(whole + 1, s.room), s.room):
+        s.add("view", *handle, memory)
+        s.add("headroom", *handle, 32, memory, 0x77)
+        s.add("clone", *handle, memory)
+    s.add("view", 7, last - 1, 32, size - 32, whole)
+    s.add("bytes", whole - size - 2, 40)
+    s.add("bytes", whole - 2 * size, 40)
+    s.add("release", *handle)
+    s.look()
+
+
 def large_memories(s):
-    """Pools that fill the packet memory: the entries at its end, full packets, and the memory one too short."""
+    """Pools that fill the packet memory of `replay`."""
     for entries, size in ((4096, 1024), (2048, 0), (256, 16384)):
-        s.fresh(entries, size)
-        size, last = s.a.size, entries - 1
-        s.add("take", size - 32)
-        s.add("memory", MEMORY - size, [k * 11 % 256 for k in range(size)])
-        handle = (7, last, 32, size - 32)
-        for memory in (MEMORY, MEMORY - 1):
-            s.add("view", *handle, memory)
-            s.add("headroom", *handle, 32, memory, 0x77)
-            s.add("clone", *handle, memory)
-        s.add("view", 7, last - 1, 32, size - 32, MEMORY)
-        s.add("bytes", MEMORY - size - 2, 40)
-        s.add("bytes", MEMORY - 2 * size, 40)
-        s.look()
+        large_memory(s, entries, size)
 
 
 # ---- rings
@@ -252,7 +263,7 @@ def receives(s):
         s.receive(4, ring=3, size=size, entries=entries)
     for q in (1, 4, FAR):
         s.receive(4, ring=3, q=q)
-    s.receive(500, ring=3, rooms=(600, 500, 501, 5000))
+    s.receive(500, ring=3, rooms=(600, 500, 501, 65535))
     s.receive(2, ring=3)
     s.receive(10, ring=3)
     s.look()
@@ -486,20 +497,20 @@ def forged_calls(s):
 def edges(s):
     """The last places of what is kept, set and shown."""
     for ring in (0, 4):
-        s.add("ring", ring, 2 * RING - 3, [1, 2, 3])
-        s.add("ring", ring, 2 * RING, [])
-        s.slots(ring, 1023)
+        s.add("ring", ring, 65533, [1, 2, 3])
+        s.add("ring", ring, 65535, [])
+        s.slots(ring, 4095)
     for held in range(4):
-        s.add("list", held, 4998, [2**32 - 1, 2**31 + 2**16])
-        s.add("list", held, 5000, [])
-        s.add("places", held, 4997, 3)
-        s.add("places", held, 5000, 0)
-    s.add("addresses", 4999, [FAR])
-    s.add("addresses", 5000, [])
-    s.add("memory", MEMORY - 2, [8, 9])
-    s.add("memory", MEMORY, [])
-    s.add("bytes", MEMORY - 4, 4)
-    s.add("bytes", MEMORY, 0)
+        s.add("list", held, 65534, [2**32 - 1, 2**31 + 2**16])
+        s.add("list", held, 65535, [])
+        s.add("places", held, 65533, 3)
+        s.add("places", held, 65535, 0)
+    s.add("addresses", 65535, [FAR])
+    s.add("addresses", 65535, [])
+    s.add("memory", s.room - 2, [8, 9])
+    s.add("memory", s.room, [])
+    s.add("bytes", s.room - 4, 4)
+    s.add("bytes", s.room, 0)
     for field, (name, _) in ARRAYS.items():
         last = len(getattr(s.a, name)) - 1
         old = value_of(s.a, field, last)
@@ -520,8 +531,21 @@ def stored():
         scene(s)
     registers_streams.scenes(s)
     s.chances(s.count + 2000)
-    return s.bytes + packed("slot", 0, 1024) + packed("sound")
+    return s.bytes + packed("slot", 0, 4096) + packed("sound")
+
+
+def hosted():
+    """What more packet memory than that of `replay` makes different: pools above it up to the largest, some random records, and one that asks for
+    more than there is."""
+    s = Chance(2, HOSTED)
+    blank(s)
+    for entries, size in ((4096, 0), (2049, 0), (257, 16384), (4096, 8192), (4095, 16384), (4096, 16384)):
+        large_memory(s, entries, size)
+    edges(s)
+    s.chances(s.count + 1000)
+    return s.bytes + packed("view", 7, 0, 32, 8, HOSTED + 1) + packed("sound")
 
 
 if __name__ == "__main__":
-    sys.stdout.buffer.write(chance(*map(int, sys.argv[1:])) if len(sys.argv) == 3 else stored())
+    named = {"stored": stored, "hosted": hosted}
+    sys.stdout.buffer.write(named[sys.argv[1]]() if sys.argv[1] in named else chance(*map(int, sys.argv[1:])))

@@ -1,12 +1,14 @@
 """Plays calls on a pool and its rings through the Rust's own functions and through the program `replay`, and compares line by line:
 
     rt check replay && python3 tools/rust_rings.py SOURCE target/bin/replay 100
+    bash tools/replay_host.sh && python3 tools/rust_rings.py SOURCE target/replay_host 20 1000 67108865
 
 SOURCE is a folder of ixy.rs with src/memory.rs and src/ixgbe.rs in it; rustc must be installed. Pool, packets, the filling of the receive ring,
 receive, send and cleaning are taken from there as they stand and compiled inside the shim below, in a folder that is gone afterwards: nothing of
 the Rust's text stands here. The shim reads the records of docs/REPLAY.md too, and answers each from the Rust's state, over ordinary memory and
-with the addresses of the script. The number is how many random scripts are played; a second is the first seed. The first difference of each
-script is printed, and the status is 1 if one differs.
+with the addresses of the script. The number is how many random scripts are played; a second is the first seed. With a third, the packet memory
+that a host lends, the pools are those that `replay` has no memory for. The first difference of each script is printed, and the status is 1 if
+one differs.
 
 The calls are inside document 01's domain, the card's writes among them. Some that docs/DIFFERENCES.md lists are made too: there the Rust must
 differ just so (`expected`), and a script ends where its state would be another. Stop reasons, hands and a pool's number are not the Rust's, and
@@ -443,14 +445,15 @@ def built(source, folder):
 
 POOLS = [*[(k, 64) for k in (1, 40, 511, 512, 544)], *[(k, 64) for k in (600, 700, 1024, 1100, 1600, 2048) for _ in range(4)],
          (1530, 0), (700, 2048), (1100, 1024), (4096, 64), (1700, 512), (900, 16384), (600, 4096), (3000, 128), (1300, 256)]  # entries, size
+LARGE = [(4096, 0), (2049, 0), (900, 16384), (1530, 4096), (4096, 4096), (4096, 16384), (600, 16384)]  # those above the memory of `replay`
 MANY = (0, 1, 2, 5, 31, 32, 33, 64, 200, 511, 512, 513, 600)
 
 
 class Script(Stream):
     """Random records inside the domain, with the model beside them, and the live packets' offsets and lengths by their ids."""
 
-    def __init__(self, seed):
-        super().__init__()
+    def __init__(self, seed, memory):
+        super().__init__(memory)
         self.dice, self.live = random.Random(seed), {}
         self.calls, self.tally = collections.Counter(), collections.Counter()
 
@@ -469,7 +472,7 @@ class Script(Stream):
         d, old = self.dice, self.memory()
         for at in range(0, old, 60000):  # the Rust clears its memory
             self.add("memory", at, bytes(min(60000, old - at)))
-        entries, size = d.choice(POOLS)
+        entries, size = d.choice(POOLS if self.room <= MEMORY else LARGE)
         first = d.choice((d.getrandbits(64), 2**64 - 300 * 64, 2**64 - 20))  # they may pass 2^64
         step = d.choice((size or 2048, size or 2048, 4096, 0, d.getrandbits(64)))
         self.add("addresses", 0, [(first + step * k) % 2**64 for k in range(entries)])
@@ -529,11 +532,11 @@ class Script(Stream):
             length = self.call("truncate", *handle, self.dice.choice((0, 1, 20, handle[3] + 1, max(0, handle[3] - 1), 2**16, FAR)))[4]
             self.live[handle[1]] = (handle[2], length)
 
-    # ---- packet memory, as far as `replay` holds it
+    # ---- packet memory, as far as there is so much
 
     def on_memory(self):
         d, handle, size = self.dice, self.one(), self.memory()
-        if not handle or size > MEMORY:
+        if not handle or size > self.room:
             return
         word = d.choice(("view", "clone", "clone", "headroom", "fill"))
         if word == "headroom":
@@ -566,7 +569,7 @@ class Script(Stream):
                 status = d.choice((0, 2, d.getrandbits(32) & ~1))
             length = d.choice((60, most, 0, most - 1, d.randrange(most + 1)))
             self.add("ring", 0, slot * 16, d.randbytes(8) + struct.pack("<IH", status, length) + d.randbytes(2))
-            if self.memory() <= MEMORY and d.random() < 0.05:
+            if self.memory() <= self.room and d.random() < 0.05:
                 self.add("memory", self.a.slots[slot] * self.a.size, d.randbytes(min(length, 200)))
 
     def receiving(self):
@@ -703,9 +706,9 @@ class Script(Stream):
         self.add("receive", 0, 0, RING, self.a.entries, 9, 9, 9, 9, 9)
 
 
-def script(seed, calls=200):
-    """A script by its seed."""
-    s = Script(seed)
+def script(seed, memory, calls=200):
+    """A script by its seed, with so much packet memory."""
+    s = Script(seed, memory)
     s.opened()
     while s.calls.total() < calls:
         s.turn()
@@ -760,10 +763,10 @@ def started(number, verdict, free, ring, *others):
     return why, " ".join(map(str, (number, "start", *end, max(free - 512, 0), ring + min(free, 512), *others)))
 
 
-def output(program, stream):
+def output(command, stream):
     """The lines that a program prints, also if it does not come to its end."""
     try:
-        run = subprocess.run([program], input=stream, stdout=subprocess.PIPE, stderr=subprocess.DEVNULL, timeout=120)
+        run = subprocess.run(command, input=stream, stdout=subprocess.PIPE, stderr=subprocess.DEVNULL, timeout=120)
     except subprocess.TimeoutExpired as late:
         return (late.stdout or b"").decode().splitlines()
     return run.stdout.decode().splitlines()
@@ -771,7 +774,7 @@ def output(program, stream):
 
 def compared(name, replay, rust, s, tally):
     """Whether the lines of a script are equal, but for what is listed."""
-    ours, theirs = output(replay, bytes(s.bytes)), output(rust, bytes(s.bytes))
+    ours, theirs = output(replay, bytes(s.bytes)), output([rust], bytes(s.bytes))
     for n in range(s.count):
         one, other = (lines[n] if n < len(lines) else "no line" for lines in (ours, theirs))
         why, must = expected(one) if n < len(ours) else (None, "a line")
@@ -789,15 +792,16 @@ def shown(title, tally):
     return f"{title}: {', '.join(f'{name} {often}' for name, often in sorted(tally.items()))}"
 
 
-def main(source, replay, count, seed=1000):
+def main(source, replay, count, seed=1000, memory=None):
+    command, memory = ([replay], MEMORY) if memory is None else ([replay, str(memory)], memory)
     differ, calls, reached, listed = 0, collections.Counter(), collections.Counter(), collections.Counter()
     with tempfile.TemporaryDirectory() as folder:
         rust = built(Path(source), Path(folder))
         for k in range(seed, seed + count):
-            s = script(k)
+            s = script(k, memory)
             calls += s.calls
             reached += s.tally
-            differ += not compared(f"script {k}", replay, rust, s, listed)
+            differ += not compared(f"script {k}", command, rust, s, listed)
     print(f"{count} scripts, {calls.total()} calls, {listed.pop('lines', 0)} lines equal, {differ} scripts differ")
     stops = {name: listed.pop(name, 0) for name in RUNS}
     parts = {"calls": calls, "receives stopped": stops, "reached": reached, "as docs/DIFFERENCES.md lists": listed}

@@ -6,7 +6,6 @@ use lib.Dec.{eqb, ltb, leb}
 use lib.ListN.{length}
 use lib.Seq.{paste}
 use Rattle.laws.specs.Test.{pick, both}
-use Rattle.limits.specs.Limits.{SLOTS, SLOT-BYTES}
 use Rattle.words.specs.Le.{leAt}
 use Rattle.places.specs.declared.Part.{Part}
 
@@ -33,12 +32,12 @@ fits unit at body to = both (eqb (length body % unit) 0) (leb (at + length body 
 abbrev pub placed : Bool → List ℕ → ℕ → (ℕ → ℕ) → ℕ → List ℕ
 placed good to at f n = pick good (paste to at (values f n) n) to
 
--- the rings, and the bytes of each: twice a ring's
+-- the rings, and the bytes of each
 abbrev pub RINGS : ℕ
 RINGS = 5
 
 abbrev pub RING-ROOM : ℕ
-RING-ROOM = 2 * SLOTS * SLOT-BYTES
+RING-ROOM = 0x10000
 
 -- so many bytes of a ring from a place on, if there is such a ring and it has them
 abbrev pub noPart : Part

@@ -9,20 +9,17 @@ ghost use Rattle.laws.specs.Test.{pick};
 ghost use Rattle.places.specs.Setting.{halfAt, wordAt, numberAt, fits, placed, noPart, ringPart};
 use limits::ENTRIES;
 use limits::SENDS;
-use limits::SLOT_BYTES;
 use limits::SLOTS;
 use pool::FreeStack;
 use rules::Account;
 
-// The rings that are kept one after the other, and the bytes of each: twice a ring's, so that it can be lent too long.
+// The rings that are kept one after the other, and the bytes of each: more than a u16 can ask for, so that each length it can is lent.
 pub const RINGS: usize = 5;
 
-pub const RING_ROOM: usize = 2 * SLOTS * SLOT_BYTES;
+pub const RING_ROOM: usize = 0x1_0000;
 
-// The places of each list and of the addresses, and the bytes of packet memory.
-pub const LIST_PLACES: usize = 5000;
-
-pub const MEMORY_BYTES: usize = 4194304;
+// The places of each list and of the addresses, for the same reason.
+pub const LIST_PLACES: usize = 0x1_0000;
 
 // The account's arrays, by the numbers of their fields; the fields before them are no arrays.
 pub const FREE_IDS: usize = 8;

@@ -8,7 +8,7 @@ use crate::lines::show_words;
 use answers::show;
 use answers::show_count;
 use limits::SLOT_BYTES;
-use limits::SLOTS;
+use places::RING_ROOM;
 use rules::Account;
 
 // The bytes of a slot of a ring.
@@ -18,7 +18,7 @@ fn slot(number: u64, body: &[u8], rings: &[u8]) -> bool {
     }
     let ring = script::half(body, 0);
     let slot = script::half(body, 2);
-    if 2 * SLOTS <= slot {
+    if RING_ROOM / SLOT_BYTES <= slot {
         return false;
     }
     let part = places::ring_part(ring, slot * SLOT_BYTES, SLOT_BYTES);

@@ -1,11 +1,11 @@
--- `replay::run` is safe and ends: the measure is the records that can still be counted, and what is lent keeps its length. Assumes nothing.
+-- `player::run` is safe and ends: the measure is the records that can still be counted, and what is lent keeps its length. Assumes nothing.
 use Prim.Native.Nat.{_-_, _^_}
 use mathlib.Core.Path.{_≡_, _∙_}
 use lib.ListN.{length}
 use native.Mathlib.Omega.{arith}
 use borrow.Author.Needs.{needs}
-use Rattle.replay.proofs.run.Statement.{statement}
-use Rattle.replay.proofs.run.Tie as tie
+use Rattle.player.proofs.run.Statement.{statement}
+use Rattle.player.proofs.run.Tie as tie
 
 abbrev Inv-loop : tie.InvT-loop
 Inv-loop buffer₀ rings₀ addresses₀ pools₀ ids₀ offsets₀ lengths₀ memory₀ held₀ number₀ buffer rings addresses pools ids offsets lengths memory held number =

@@ -1,10 +1,10 @@
--- `replay::packet::fill` is safe: every place that it writes is there. Assumes nothing.
+-- `moves::packet::fill` is safe: every place that it writes is there. Assumes nothing.
 use Prim.Native.Nat.{_-_, _≤_}
 use mathlib.Core.Path.{_≡_}
 use lib.ListN.{length}
 use borrow.Author.Needs.{needs}
-use Rattle.replay.proofs.packet.fill.Statement.{statement}
-use Rattle.replay.proofs.packet.fill.Tie as tie
+use Rattle.moves.proofs.packet.fill.Statement.{statement}
+use Rattle.moves.proofs.packet.fill.Tie as tie
 
 abbrev Inv-loop : tie.InvT-loop
 Inv-loop part₀ byte i₀ i-end part i = (i ≤ i-end) × (i-end ≤ length part) × (length part ≡ length part₀)

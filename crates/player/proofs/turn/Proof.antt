@@ -1,7 +1,7 @@
--- `replay::turn` is safe and ends: what is lent keeps its length. Assumes nothing.
+-- `player::turn` is safe and ends: what is lent keeps its length. Assumes nothing.
 use borrow.Author.Needs.{needs}
-use Rattle.replay.proofs.turn.Statement.{statement}
-use Rattle.replay.proofs.turn.Tie as tie
+use Rattle.player.proofs.turn.Statement.{statement}
+use Rattle.player.proofs.turn.Tie as tie
 
 read-requires : tie.Need-read-requires
 read-requires c κs = search needs

@@ -20,13 +20,6 @@ pub fn end() {
     say(b"\n");
 }
 
-// The line of a record that is not good.
-pub fn show_bad(number: u64) {
-    say(b"bad");
-    show(number);
-    end();
-}
-
 // Document 01's number, and after a 4 the index.
 pub fn show_verdict(verdict: Verdict) {
     show(calls::number(verdict));
