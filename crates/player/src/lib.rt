@@ -43,7 +43,7 @@ fn show_bad(number: u64) {
     say(b"\n");
 }
 
-// The same, which is the last.
+// After a record that is not good: its line, and nothing to go on with.
 fn bad(number: u64, held: Held) -> Held {
     show_bad(number);
     over(held)
