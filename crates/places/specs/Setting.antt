@@ -3,7 +3,6 @@ use Prim.Native.Nat.{ℕ, zero, suc, _+_, _*_, _/_, _%_}
 use mathlib.Core.Bool.{Bool, true, false}
 use mathlib.Core.List.{List, [], _∷_}
 use lib.Dec.{eqb, ltb, leb}
-use lib.ListN.{length}
 use lib.Seq.{paste}
 use Rattle.laws.specs.Test.{pick, both}
 use Rattle.words.specs.Le.{leAt}
@@ -24,9 +23,9 @@ wordAt body i = leAt 4 (4 * i) body
 abbrev pub numberAt : List ℕ → ℕ → ℕ
 numberAt body i = leAt 8 (8 * i) body
 
--- whether a body of whole numbers, so many bytes each, fits from a place on
-abbrev pub fits : ℕ → ℕ → List ℕ → List ℕ → Bool
-fits unit at body to = both (eqb (length body % unit) 0) (leb (at + length body / unit) (length to))
+-- whether so many bytes are whole numbers of some bytes each, and fit from a place on into so many places
+abbrev pub fits : ℕ → ℕ → ℕ → ℕ → Bool
+fits unit at bytes places = both (eqb (bytes % unit) 0) (leb (at + bytes / unit) places)
 
 -- a list with the first n numbers of a rule from a place on, if the record was good
 abbrev pub placed : Bool → List ℕ → ℕ → (ℕ → ℕ) → ℕ → List ℕ

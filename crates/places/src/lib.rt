@@ -1,7 +1,7 @@
 // What the records of `replay` set: bytes, places of lists and addresses, and the fields of an account. Each function says whether the
 // record was good, which it is if the places that it names are there; if not, nothing is set.
 ghost use mathlib.Core.Path.{_≡_};
-ghost use Prim.Native.Nat.{_+_, _/_, _%_, _≤_};
+ghost use Prim.Native.Nat.{_+_, _/_, _%_, _≤_, _<_};
 ghost use lib.ListN.{length};
 ghost use lib.Dec.{leb};
 ghost use lib.Seq.{paste};
@@ -119,18 +119,26 @@ pub fn set_bytes(to: &mut [u8], at: usize, from: &[u8]) -> bool
     true
 }
 
+// Whether so many bytes are whole numbers of some bytes each, and fit from a place on into so many places.
+fn has_room(unit: usize, at: usize, bytes: usize, places: usize) -> bool
+    requires { ⌜ 0 < unit ⌝ }
+    ensures { λ r. ⌜ r ≡ fits unit at bytes places ⌝ }
+{
+    if bytes % unit != 0 {
+        return false;
+    }
+    if places < at {
+        return false;
+    }
+    bytes / unit <= places - at
+}
+
 // Sets places of u16 from a place on, each to the low half of a u32.
 pub fn set_halves(to: &mut [u16], at: usize, from: &[u8]) -> bool
-    ensures says { λ r. ⌜ r ≡ fits 4 at (now (from .entry)) (now (to .entry)) ⌝ }
+    ensures says { λ r. ⌜ r ≡ fits 4 at (length (now (from .entry))) (length (now (to .entry))) ⌝ }
     ensures leaves { λ r. ⌜ now (to .exit) ≡ placed r (now (to .entry)) at (halfAt (now (from .entry))) (length (now (from .entry)) / 4) ⌝ }
 {
-    if from.len() % 4 != 0 {
-        return false;
-    }
-    if to.len() < at {
-        return false;
-    }
-    if to.len() - at < from.len() / 4 {
+    if !has_room(4, at, from.len(), to.len()) {
         return false;
     }
     for i in 0..from.len() / 4 {
@@ -141,16 +149,10 @@ pub fn set_halves(to: &mut [u16], at: usize, from: &[u8]) -> bool
 
 // Sets places of u32 from a place on.
 pub fn set_words(to: &mut [u32], at: usize, from: &[u8]) -> bool
-    ensures says { λ r. ⌜ r ≡ fits 4 at (now (from .entry)) (now (to .entry)) ⌝ }
+    ensures says { λ r. ⌜ r ≡ fits 4 at (length (now (from .entry))) (length (now (to .entry))) ⌝ }
     ensures leaves { λ r. ⌜ now (to .exit) ≡ placed r (now (to .entry)) at (wordAt (now (from .entry))) (length (now (from .entry)) / 4) ⌝ }
 {
-    if from.len() % 4 != 0 {
-        return false;
-    }
-    if to.len() < at {
-        return false;
-    }
-    if to.len() - at < from.len() / 4 {
+    if !has_room(4, at, from.len(), to.len()) {
         return false;
     }
     for i in 0..from.len() / 4 {
@@ -161,16 +163,10 @@ pub fn set_words(to: &mut [u32], at: usize, from: &[u8]) -> bool
 
 // Sets places of u64 from a place on.
 pub fn set_numbers(to: &mut [u64], at: usize, from: &[u8]) -> bool
-    ensures says { λ r. ⌜ r ≡ fits 8 at (now (from .entry)) (now (to .entry)) ⌝ }
+    ensures says { λ r. ⌜ r ≡ fits 8 at (length (now (from .entry))) (length (now (to .entry))) ⌝ }
     ensures leaves { λ r. ⌜ now (to .exit) ≡ placed r (now (to .entry)) at (numberAt (now (from .entry))) (length (now (from .entry)) / 8) ⌝ }
 {
-    if from.len() % 8 != 0 {
-        return false;
-    }
-    if to.len() < at {
-        return false;
-    }
-    if to.len() - at < from.len() / 8 {
+    if !has_room(8, at, from.len(), to.len()) {
         return false;
     }
     for i in 0..from.len() / 8 {
