@@ -1,4 +1,5 @@
--- Handles one after the other: the first of a list are remembered, and the last handles of a send's ids are gathered.
+-- Handles one after the other: the first of a list are remembered, and the last handles of a send's ids are gathered. Lists that keep their lengths
+-- keep their room.
 use Prim.Native.Nat.{ℕ, zero, suc, _+_, _-_, _≤_, _<_}
 use mathlib.Core.Path.{_≡_, ap}
 use mathlib.Core.List.{List, [], _∷_, _++_, map}
@@ -11,6 +12,15 @@ use Rattle.laws.specs.Occurs.{upFrom}
 use Rattle.rules.specs.Handles.{Handles, handles, putHandle, Room}
 use Rattle.tally.specs.Tally.{POOL, Memory, lastHandle, remembered}
 use Rattle.stream.specs.Bench.{idAt, sendLists, rememberAll}
+
+-- ---- room
+
+-- lists that are as long as others have room for as many handles
+pub room-kept : {n k : ℕ} {l j : Handles} → Room n l → k ≤ n
+    → length (j .pools) ≡ length (l .pools) → length (j .ids) ≡ length (l .ids)
+    → length (j .offsets) ≡ length (l .offsets) → length (j .lengths) ≡ length (l .lengths) → Room k j
+room-kept room less pools ids offsets lengths =
+    record { pools = omega (arith, room .pools); ids = omega (arith, room .ids); offsets = omega (arith, room .offsets); lengths = omega (arith, room .lengths) }
 
 -- ---- remembering
 
