@@ -7,13 +7,16 @@ use lib.ListN.{length, getD, set, length-set}
 use lib.Arith.{lt-of-le-ne}
 use native.Mathlib.Omega.{arith}
 use Rattle.limits.specs.Limits.{SLOTS}
+use Rattle.words.specs.Slots.{offered}
 use Rattle.words.proofs.Slots.{length-offered}
-use Rattle.pool.specs.Stack.{top}
+use Rattle.pool.specs.Stack.{top, popped}
+use Rattle.pool.specs.Hands.{HAND-RECEIVE, HAND-OUT}
 use Rattle.rules.specs.declared.Stop.{Stop}
 use Rattle.rules.specs.declared.Stop.the-variants.{Asked}
 use Rattle.rules.specs.declared.Found.the-variants.{Nothing, Frame}
-use Rattle.rules.specs.Handles.{Handles, Room}
-use Rattle.rules.specs.Receive.{Filling, filled, fillRule, Receiving, received, next, receiveRule}
+use Rattle.rules.specs.Handles.{Handles, putHandle, Room}
+use Rattle.rules.specs.Account.{nextSlot}
+use Rattle.rules.specs.Receive.{Filling, filled, fillRule, Receiving, oldId, frameOf, received, next, receiveRule}
 use Rattle.rules.proofs.Receive.{Ready, ready-turn, room-here, frame-free, rule-asked, rule-stopped, rule-frame}
 use Rattle.rings.specs.Lent.{Known, Stacked, Receivable}
 
@@ -61,6 +64,18 @@ module _ (addresses : List ℕ) (slot : ℕ) (w : Filling) where
   pub fill-ring : length (filled addresses slot w .ring) ≡ length (w .ring)
   unfolding filled
   fill-ring = length-offered _ _ _
+
+-- ---- a frame
+
+-- the top of the stack is offered, it takes the slot, and the id that the slot had is put into the lists
+pub frame-taken : (pool : ℕ) (addresses : List ℕ) (len : ℕ) (w : Receiving) {ring slots hands : List ℕ} {lists : Handles} {old : ℕ}
+    → ring ≡ offered (w .rx) (getD addresses (top (w .free)) 0) (w .ring)
+    → (old ≡ oldId w) × ((slots ≡ set (w .slots) (w .rx) (top (w .free))) × (hands ≡ set (set (w .hands) (oldId w) HAND-OUT) (top (w .free)) HAND-RECEIVE))
+    → lists ≡ putHandle (w .lists) (w .count) (frameOf pool old len)
+    → record { free = popped (w .free); hands = hands; slots = slots; rx = nextSlot (w .rx); ring = ring; lists = lists; count = w .count + 1 }
+    ≡ received pool addresses len w
+unfolding received
+frame-taken pool addresses len w offers swaps puts = rw (puts, swaps .0, swaps .1 .0, swaps .1 .1, offers)
 
 -- ---- the receive's loop
 

@@ -1,16 +1,15 @@
 -- `desk::serve_on` is safe and ends: what holds between two reads is `Standing`, and the measure is the records that can still be counted.
 -- Assumes nothing.
-use Prim.Native.Nat.{_-_, _^_}
+use Prim.Native.Nat.{_-_, _^_, _<_}
 use mathlib.Core.Path.{refl, sym, _∙_}
 use mathlib.Core.Bool.{not}
 use native.Mathlib.Omega.{arith}
-use lib.Dec.{ltb}
 use borrow.Author.Tests.{ltb-true}
 use Rattle.laws.proofs.Test.{both-right}
 use Rattle.rules.specs.Handles.{handles}
 use Rattle.tally.specs.Tally.{memoryAs}
 use Rattle.stream.specs.Bench.{benchAs, Bench}
-use Rattle.desk.proofs.Standing.{lists, same, same-more, Standing, closer}
+use Rattle.desk.proofs.Standing.{lists, same, same-more, same-of, Standing, closer}
 use borrow.Author.Needs.{needs}
 use Rattle.desk.proofs.serve_on.Statement.{statement}
 use Rattle.desk.proofs.serve_on.Tie as tie
@@ -37,6 +36,26 @@ asked c = c .before .before .before .before .before .before .before .before .bef
 abbrev served : tie.After-flush-arg Inv-loop μ-loop → tie.After-serve Inv-loop μ-loop
 served c = c .before .before .before .before .before .before .before .before .before .before .before .before .before .before .before .before .before .before .before
 
+-- the last three, from a round's end
+abbrev turn : tie.After-past Inv-loop μ-loop → tie.After-serve Inv-loop μ-loop
+turn c = served (c .before .before)
+
+abbrev fill : tie.After-past Inv-loop μ-loop → tie.After-filled Inv-loop μ-loop
+fill c = asked (turn c .before)
+
+abbrev round : tie.After-past Inv-loop μ-loop → tie.At-loop Inv-loop μ-loop
+round c = head (fill c)
+
+-- where the loop was left, and what was put then, from the function's end
+abbrev left : tie.After-put-cut-arg2 Inv-loop μ-loop → tie.At-loop Inv-loop μ-loop
+left c = c .before .before .before .before
+
+abbrev cut : tie.After-flush2 Inv-loop μ-loop → tie.After-put-cut Inv-loop μ-loop
+cut c = c .before .before .before .before
+
+abbrev last : tie.After-flush2 Inv-loop μ-loop → tie.At-loop Inv-loop μ-loop
+last c = left (cut c .before)
+
 -- ---- what is lent is as long as it was
 
 -- before records are served, and after
@@ -51,14 +70,28 @@ lent a =
       offsets = k .offsets ∙ p .4;
       lengths = k .lengths ∙ p .5;
       known = p .3;
-      room = record { pools = omega (arith, k .pools, p .6); ids = omega (arith, k .ids, p .7); offsets = omega (arith, k .froms, p .8); lengths = omega (arith, k .sizes, p .9) };
+      room = record {
+        pools = omega (arith, k .pools, p .6);
+        ids = omega (arith, k .ids, p .7);
+        offsets = omega (arith, k .froms, p .8);
+        lengths = omega (arith, k .sizes, p .9);
+      };
     }
 
 first-requires : tie.Need-first-requires Inv-loop μ-loop
 first-requires c κs = search needs
 
 loop-holds : tie.Need-loop-holds Inv-loop μ-loop
-loop-holds c = record { whole = refl; room = refl; kept = same _; good = c .first .ensures .3; held = (omega arith, omega arith); few = omega (arith, c .first .ensures .0); counted = omega arith }
+loop-holds c =
+    record {
+      whole = refl;
+      room = refl;
+      kept = same _;
+      good = c .first .ensures .3;
+      held = (omega arith, omega arith);
+      few = omega (arith, c .first .ensures .0);
+      counted = omega arith;
+    }
 
 is-on-requires : tie.Need-is-on-requires Inv-loop μ-loop
 is-on-requires c κs = search needs
@@ -75,64 +108,60 @@ flush-requires c κs = served c .serve .ensures .1 .1 .3
 past-requires : tie.Need-past-requires Inv-loop μ-loop
 past-requires c κs = search needs
 
--- a record was served since
+-- the loop goes on only where a record was served since
+more : (c : tie.Then1 Inv-loop μ-loop) → c .before .before .loop .count < c .before .before .loop .run .count
+more c = ltb-true _ _ (both-right (not (c .before .before .loop .run .ended)) _ (sym (c .before .is-on .ensures) ∙ c .if1 .taken))
+
 loop-less : tie.Need-loop-less Inv-loop μ-loop
-loop-less c =
-    let on = asked (served (c .before .before) .before) .before .before in
-    let at = on .before .before .loop in
-    closer (ltb-true (at .count) (at .run .count) (both-right (not (at .run .ended)) (ltb (at .count) (at .run .count)) (sym (on .before .is-on .ensures) ∙ on .if1 .taken))) (at .inv .counted)
+loop-less c = closer (more (fill c .before .before)) (round c .loop .inv .counted)
 
 loop-again : tie.Need-loop-again Inv-loop μ-loop
 loop-again c =
-    let s = served (c .before .before) in
-    let f = asked (s .before) in
-    let i = head f .loop .inv in
-    let kept = s .serve .kept in
     record {
-      whole = f .filled .kept .0 ∙ i .whole;
-      room = kept .1 .1 .0 ∙ i .room;
-      kept = same-more (record { rx = kept .1 .1 .1 .1 .0; tx = kept .1 .1 .1 .1 .1 .0; offsets = kept .1 .1 .1 .1 .1 .1 .1 .0; lengths = kept .1 .1 .1 .1 .1 .1 .1 .1 .0; pools = kept .1 .1 .1 .1 .1 .1 .1 .1 .1 .0; ids = kept .1 .1 .1 .1 .1 .1 .1 .1 .1 .1 .0; froms = kept .1 .1 .1 .1 .1 .1 .1 .1 .1 .1 .1 .0; sizes = kept .1 .1 .1 .1 .1 .1 .1 .1 .1 .1 .1 .1 .0 }) (i .kept);
-      good = s .serve .ensures .1 .1 .4;
-      held = (omega (arith, c .past .ensures, s .serve .ensures .1 .1 .1), omega (arith, c .past .ensures .1, f .filled .ensures .0 .1));
-      few = omega (arith, s .serve .ok);
-      counted = i .few;
+      whole = fill c .filled .kept .0 ∙ round c .loop .inv .whole;
+      room = turn c .serve .kept .1 .1 .0 ∙ round c .loop .inv .room;
+      kept = same-more (same-of (turn c .serve .kept .1 .1 .1 .1)) (round c .loop .inv .kept);
+      good = turn c .serve .ensures .1 .1 .4;
+      held = (omega (arith, c .past .ensures, turn c .serve .ensures .1 .1 .1), omega (arith, c .past .ensures .1, fill c .filled .ensures .0 .1));
+      few = omega (arith, turn c .serve .ok);
+      counted = round c .loop .inv .few;
     }
 
 put-cut-requires : tie.Need-put-cut-requires Inv-loop μ-loop
-put-cut-requires c κs = let a = c .before .before .before .before in (omega (arith, a .loop .inv .room, entry a .pre .0), a .loop .inv .held .0, a .loop .inv .held .1)
+put-cut-requires c κs = let i = left c .loop .inv in (omega (arith, i .room, entry (left c) .pre .0), i .held .0, i .held .1)
 
 flush-requires-2 : tie.Need-flush-requires-2 Inv-loop μ-loop
 flush-requires-2 c κs = c .before .before .before .put-cut .ensures .0
 
 same-length : tie.Need-same-length Inv-loop μ-loop
-same-length c = c .before .before .before .before .before .before .before .before .before .loop .inv .whole
+same-length c = last c .loop .inv .whole
 
 same-length-2 : tie.Need-same-length-2 Inv-loop μ-loop
-same-length-2 c = c .before .before .before .before .put-cut .kept .0 ∙ c .before .before .before .before .before .before .before .before .before .loop .inv .room
+same-length-2 c = cut c .put-cut .kept .0 ∙ last c .loop .inv .room
 
 same-length-3 : tie.Need-same-length-3 Inv-loop μ-loop
-same-length-3 c = c .before .before .before .before .before .before .before .before .before .loop .inv .kept .rx
+same-length-3 c = last c .loop .inv .kept .rx
 
 same-length-4 : tie.Need-same-length-4 Inv-loop μ-loop
-same-length-4 c = c .before .before .before .before .before .before .before .before .before .loop .inv .kept .tx
+same-length-4 c = last c .loop .inv .kept .tx
 
 same-length-5 : tie.Need-same-length-5 Inv-loop μ-loop
-same-length-5 c = c .before .before .before .before .before .before .before .before .before .loop .inv .kept .offsets
+same-length-5 c = last c .loop .inv .kept .offsets
 
 same-length-6 : tie.Need-same-length-6 Inv-loop μ-loop
-same-length-6 c = c .before .before .before .before .before .before .before .before .before .loop .inv .kept .lengths
+same-length-6 c = last c .loop .inv .kept .lengths
 
 same-length-7 : tie.Need-same-length-7 Inv-loop μ-loop
-same-length-7 c = c .before .before .before .before .before .before .before .before .before .loop .inv .kept .pools
+same-length-7 c = last c .loop .inv .kept .pools
 
 same-length-8 : tie.Need-same-length-8 Inv-loop μ-loop
-same-length-8 c = c .before .before .before .before .before .before .before .before .before .loop .inv .kept .ids
+same-length-8 c = last c .loop .inv .kept .ids
 
 same-length-9 : tie.Need-same-length-9 Inv-loop μ-loop
-same-length-9 c = c .before .before .before .before .before .before .before .before .before .loop .inv .kept .froms
+same-length-9 c = last c .loop .inv .kept .froms
 
 same-length-10 : tie.Need-same-length-10 Inv-loop μ-loop
-same-length-10 c = c .before .before .before .before .before .before .before .before .before .loop .inv .kept .sizes
+same-length-10 c = last c .loop .inv .kept .sizes
 
 returns : tie.Need-returns Inv-loop μ-loop
 returns c = search needs
