@@ -9,6 +9,7 @@ use native.Mathlib.Omega.{arith}
 use Rattle.limits.specs.Limits.{SLOTS}
 use Rattle.words.specs.Slots.{offered}
 use Rattle.words.proofs.Slots.{length-offered}
+use Rattle.pool.specs.declared.Handle.{Handle}
 use Rattle.pool.specs.Stack.{top, popped}
 use Rattle.pool.specs.Hands.{HAND-RECEIVE, HAND-OUT}
 use Rattle.rules.specs.declared.Stop.{Stop}
@@ -68,14 +69,14 @@ module _ (addresses : List ℕ) (slot : ℕ) (w : Filling) where
 -- ---- a frame
 
 -- the top of the stack is offered, it takes the slot, and the id that the slot had is put into the lists
-pub frame-taken : (pool : ℕ) (addresses : List ℕ) (len : ℕ) (w : Receiving) {ring slots hands : List ℕ} {lists : Handles} {old : ℕ}
+pub frame-taken : (pool : ℕ) (addresses : List ℕ) (len : ℕ) (w : Receiving) {ring slots hands : List ℕ} {lists : Handles} {old : ℕ} {handle : Handle}
     → ring ≡ offered (w .rx) (getD addresses (top (w .free)) 0) (w .ring)
     → (old ≡ oldId w) × ((slots ≡ set (w .slots) (w .rx) (top (w .free))) × (hands ≡ set (set (w .hands) (oldId w) HAND-OUT) (top (w .free)) HAND-RECEIVE))
-    → lists ≡ putHandle (w .lists) (w .count) (frameOf pool old len)
+    → lists ≡ putHandle (w .lists) (w .count) handle → handle ≡ frameOf pool old len
     → record { free = popped (w .free); hands = hands; slots = slots; rx = nextSlot (w .rx); ring = ring; lists = lists; count = w .count + 1 }
     ≡ received pool addresses len w
 unfolding received
-frame-taken pool addresses len w offers swaps puts = rw (puts, swaps .0, swaps .1 .0, swaps .1 .1, offers)
+frame-taken pool addresses len w offers swaps puts frame = rw (puts, frame, swaps .0, swaps .1 .0, swaps .1 .1, offers)
 
 -- ---- the receive's loop
 

@@ -8,7 +8,7 @@ ghost use Rattle.words.specs.Slots.{InRing};
 ghost use Rattle.pool.specs.Hands.{HAND-RECEIVE, HAND-OUT};
 ghost use Rattle.rules.specs.Handles.{handles, Room};
 ghost use Rattle.rules.specs.Account.{nextSlot};
-ghost use Rattle.rules.specs.Receive.{filled, fillRule, judged, found, received, receiveRule};
+ghost use Rattle.rules.specs.Receive.{frameOf, filled, fillRule, judged, found, received, receiveRule};
 ghost use Rattle.rings.specs.Lent.{Stacked, fillingAs, Fillable, receivingAs, stoppedAs, Receivable};
 use limits::ENTRIES;
 use limits::SLOTS;
@@ -112,6 +112,18 @@ fn swap(slots: &mut [u16; SLOTS], hands: &mut [u8; ENTRIES], slot: usize, fresh:
     old
 }
 
+// The packet of a received frame, which starts its entry.
+fn frame_of(pool: u32, id: u16, len: u16) -> Handle
+    ensures { λ r. ⌜ r ≡ frameOf pool id len ⌝ }
+{
+    Handle {
+        pool,
+        id,
+        offset: 0,
+        length: len,
+    }
+}
+
 // A frame's buffer goes to the list, and the buffer at the top of the stack to the card.
 fn take_frame(
     pool: u32,
@@ -135,13 +147,14 @@ fn take_frame(
     let fresh = stack[depth - 1];
     words::offer(ring, slot, addresses[fresh as usize]);
     let old = swap(slots, hands, slot, fresh);
-    let handle = Handle {
-        pool,
-        id: old,
-        offset: 0,
-        length: len,
-    };
-    lists::put(pools, ids, offsets, lengths, count, handle);
+    lists::put(
+        pools,
+        ids,
+        offsets,
+        lengths,
+        count,
+        frame_of(pool, old, len),
+    );
 }
 
 // Takes up to n frames from the ring into the lists, and gives the card a free buffer for each.

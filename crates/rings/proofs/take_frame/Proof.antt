@@ -20,7 +20,7 @@ abbrev listed : tie.After-slice-known10 → tie.After-put
 listed c = c .before .before .before .before .before .before .before .before
 
 abbrev swapped : tie.After-slice-known10 → tie.After-swap
-swapped c = listed c .before .before .before .before .before
+swapped c = listed c .before .before .before .before .before .before
 
 -- the buffer at the top of the stack has an address, and there are at most as many as entries
 top-small : (c : tie.Start) → (getD (c .args .stack .now) (c .args .depth - 1) 0 < length (c .args .addresses .now)) × (length (c .args .addresses .now) ≤ ENTRIES)
@@ -50,6 +50,9 @@ offer-requires c κs = search needs
 swap-requires : tie.Need-swap-requires
 swap-requires c κs = let s = entry (offered c .before .before) in (s .pre .2 .place, s .pre .3, omega (arith, top-small s))
 
+frame-of-requires : tie.Need-frame-of-requires
+frame-of-requires c κs = search needs
+
 put-requires : tie.Need-put-requires
 put-requires c κs = search needs
 
@@ -69,7 +72,7 @@ same-length-5 : tie.Need-same-length-5
 same-length-5 c = search needs
 
 returns : tie.Need-returns
-returns c = frame-taken _ _ _ _ (offered (swapped c .before) .offer .ensures) (swapped c .swap .ensures) (listed c .put .ensures)
+returns c = frame-taken _ _ _ _ (offered (swapped c .before) .offer .ensures) (swapped c .swap .ensures) (listed c .put .ensures) (listed c .before .frame-of .ensures)
 
 pub take-frame-spec : {M : Type 1} → statement M
 take-frame-spec =
@@ -83,6 +86,7 @@ take-frame-spec =
     shared-slice-read-offer
     offer-requires
     swap-requires
+    frame-of-requires
     put-requires
     same-length
     same-length-2
