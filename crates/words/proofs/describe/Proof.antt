@@ -1,8 +1,35 @@
 -- `words::describe` meets its contract: its three writes are those of a described slot. Assumes nothing.
+use Prim.Native.Nat.{_+_}
+use mathlib.Core.Path.{_≡_, ap, _∙_}
 use borrow.Author.Needs.{needs}
-use Rattle.words.specs.Slots.{described}
+use Rattle.words.specs.Le.{putLe}
+use Rattle.words.specs.Slots.{slotAt, commandOf, payloadOf, described}
 use Rattle.words.proofs.describe.Statement.{statement}
 use Rattle.words.proofs.describe.Tie as tie
+
+-- ---- places: the entry, and the first and the second write from the one after it
+
+abbrev entry : tie.After-write64 → tie.Start
+entry c = c .before .before .before
+
+abbrev first : tie.After-write32 → tie.After-write64
+first c = c .before .before .before .before
+
+abbrev second : tie.After-write322 → tie.After-write32
+second c = c .before .before .before .before
+
+-- ---- what each write writes: the address, the command word and the other word
+
+addressed : (c : tie.After-write64) → let a = entry c .args in c .write64 .last .0 ≡ putLe 8 (slotAt (a .slot)) (a .address) (a .ring .now)
+addressed c = c .write64 .ensures
+
+commanded : (c : tie.After-write32) → let a = entry (first c) .args in
+    c .write32 .last .0 ≡ putLe 4 (slotAt (a .slot) + 8) (commandOf (a .len)) (first c .write64 .last .0)
+commanded c = c .write32 .ensures
+
+paid : (c : tie.After-write322) → let a = entry (first (second c)) .args in
+    c .write322 .last .0 ≡ putLe 4 (slotAt (a .slot) + 12) (payloadOf (a .len)) (second c .write32 .last .0)
+paid c = c .write322 .ensures
 
 mul-write64 : tie.Need-mul-write64
 mul-write64 c = search needs
@@ -39,7 +66,12 @@ same-length c = search needs
 
 returns : tie.Need-returns
 unfolding described
-returns c = cc
+returns c =
+    let w = c .before .before in
+    let a = entry (first (second w)) .args in
+    paid w
+    ∙ ap (putLe 4 (slotAt (a .slot) + 12) (payloadOf (a .len)))
+      (commanded (second w) ∙ ap (putLe 4 (slotAt (a .slot) + 8) (commandOf (a .len))) (addressed (first (second w))))
 
 pub describe-spec : {M : Type 1} → statement M
 describe-spec =
