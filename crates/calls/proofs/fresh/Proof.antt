@@ -1,5 +1,5 @@
 -- `calls::fresh` meets its contract: refused where a number is out of its range, and else opened. Assumes nothing.
-use mathlib.Core.Path.{_≡_, sym, ap, _∙_}
+use mathlib.Core.Path.{_≡_, refl, sym, ap, _∙_}
 use borrow.Author.Tests.{not-true, not-false}
 use Rattle.rules.specs.Sound.{inRange}
 use Rattle.rules.specs.Refusals.{sizeGiven, freshVerdict}
@@ -27,7 +27,7 @@ in-range c =
 
 returns : tie.Need-returns
 unfolding freshVerdict freshCall
-returns c = rw (c .«open» .ensures, in-range (c .before .before) ∙ not-true _ (c .before .if1 .taken))
+returns c = rw (c .«open» .ensures, in-range (c .before .before) ∙ not-true _ (c .before .if1 .taken)) refl
 
 open-requires-2 : tie.Need-open-requires-2
 open-requires-2 c κs = search needs

@@ -1,6 +1,6 @@
 -- `memory::clone` meets its contract: refused as its verdict says, or the top is taken and the bytes are copied. The top is free and the packet
 -- is not, so their entries are apart. Assumes nothing.
-use mathlib.Core.Path.{_≡_, sym, _∙_}
+use mathlib.Core.Path.{_≡_, refl, sym, _∙_}
 use native.Mathlib.Omega.{arith}
 use lib.ListN.{length}
 use Rattle.limits.specs.Limits.{HEADROOM}
@@ -85,7 +85,7 @@ returns-2 c =
       c .before .before .before .before .before .before .take-top .ensures,
       passed (told (c .before .before .before .before .before)),
       to-is (c .before .before .before .before .before),
-    )
+    ) refl
 
 pub clone-spec : {M : Type 1} → statement M
 clone-spec =

@@ -1,5 +1,5 @@
 -- `memory::headroom_verdict` meets its contract: the view's verdict, and then each answer by the tests that led there. Assumes nothing.
-use mathlib.Core.Path.{_≡_, sym, _∙_}
+use mathlib.Core.Path.{_≡_, refl, sym, _∙_}
 use mathlib.Core.Bool.{true, false}
 use lib.Dec.{leb}
 use borrow.Author.Tests.{lt-leb, le-leb}
@@ -47,13 +47,13 @@ cast-offset : tie.Need-cast-offset
 cast-offset c = search needs
 
 returns-2 : tie.Need-returns-2
-returns-2 c = rw (headroom-by-view, given (c .before .before .before), most (c .before .before), outside c)
+returns-2 c = rw (headroom-by-view, given (c .before .before .before), most (c .before .before), outside c) refl
 
 returns-3 : tie.Need-returns-3
 returns-3 c = rw (headroom-by-view, sym (c .before .before .before .view-verdict .ensures) ∙ c .before .verdict .given .1)
 
 returns-4 : tie.Need-returns-4
-returns-4 c = rw (headroom-by-view, given (c .before .before .before), most (c .before .before), within c)
+returns-4 c = rw (headroom-by-view, given (c .before .before .before), most (c .before .before), within c) refl
 
 pub headroom-verdict-spec : {M : Type 1} → statement M
 headroom-verdict-spec =

@@ -1,5 +1,5 @@
 -- `memory::view` meets its contract: refused as its verdict says, or the packet's part, which lies inside packet memory. Assumes nothing.
-use mathlib.Core.Path.{_≡_, sym, _∙_}
+use mathlib.Core.Path.{_≡_, refl, sym, _∙_}
 use native.Mathlib.Omega.{arith}
 use native.Mathlib.Nat.{add-sub-cancel-left}
 use lib.ListN.{length}
@@ -63,7 +63,7 @@ part-result-end-2 c = omega (arith, inside (c .before .before .before))
 
 returns : tie.Need-returns
 unfolding viewCall
-returns c = rw (sym (c .before .before .before .view-verdict .ensures) ∙ c .before .enum-told .given .1)
+returns c = rw (sym (c .before .before .before .view-verdict .ensures) ∙ c .before .enum-told .given .1) refl
 
 returns-2 : tie.Need-returns-2
 unfolding viewCall

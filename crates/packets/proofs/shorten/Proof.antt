@@ -1,4 +1,5 @@
 -- `packets::shorten` meets its contract: `least` ensures the length. Assumes nothing.
+use mathlib.Core.Path.{refl}
 use borrow.Author.Needs.{needs}
 use Rattle.packets.proofs.shorten.Statement.{statement}
 use Rattle.packets.proofs.shorten.Tie as tie
@@ -13,7 +14,7 @@ cast-t5 : tie.Need-cast-t5
 cast-t5 c = search needs
 
 returns : tie.Need-returns
-returns c = rw (c .least .ensures)
+returns c = rw (c .least .ensures) refl
 
 pub shorten-spec : {M : Type 1} → statement M
 shorten-spec = tie.close (tie.spec cast-least least-requires cast-t5 returns)

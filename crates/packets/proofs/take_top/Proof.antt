@@ -1,4 +1,5 @@
 -- `packets::take_top` meets its contract: what the pop gave goes into the handle, the stack and the record of hands. Assumes nothing.
+use mathlib.Core.Path.{refl}
 use Rattle.rules.specs.Packets.{taken}
 use borrow.Author.Needs.{needs}
 use Rattle.packets.proofs.take_top.Statement.{statement}
@@ -21,7 +22,7 @@ with-pool-requires c κs = search needs
 
 returns : tie.Need-returns
 unfolding taken
-returns c = rw (c .with-pool .ensures, c .before .before .before .pop .ensures)
+returns c = rw (c .with-pool .ensures, c .before .before .before .pop .ensures) refl
 
 pub take-top-spec : {M : Type 1} → statement M
 take-top-spec =

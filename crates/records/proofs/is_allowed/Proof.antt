@@ -1,4 +1,5 @@
 -- `records::is_allowed` meets its contract: each record by its name. Assumes nothing.
+use mathlib.Core.Path.{refl}
 use borrow.Author.Needs.{needs}
 use Rattle.records.proofs.is_allowed.Statement.{statement}
 use Rattle.records.proofs.is_allowed.Tie as tie
@@ -43,7 +44,7 @@ returns-4 : tie.Need-returns-4
 returns-4 c = search needs
 
 returns-5 : tie.Need-returns-5
-returns-5 c = rw (c .before .what .given .1)
+returns-5 c = rw (c .before .what .given .1) refl
 
 returns-6 : tie.Need-returns-6
 returns-6 c = search needs

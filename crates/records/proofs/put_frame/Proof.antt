@@ -1,5 +1,5 @@
 -- `records::put_frame` meets its contract: the status, and the two bytes of the length. Assumes nothing.
-use mathlib.Core.Path.{_≡_}
+use mathlib.Core.Path.{_≡_, refl}
 use Prim.Native.Nat.{_+_, _*_, _/_, _%_}
 use lib.ListN.{length-set}
 use native.Mathlib.Omega.{arith}
@@ -44,7 +44,7 @@ unfolding frameRule putLe
 returns c =
     let next : c .before .before .before .before .before .args .slot * 16 + 12 + 1 ≡ c .before .before .before .before .before .args .slot * 16 + 13 = omega arith in
     let high : c .before .before .before .before .before .args .len / 256 % 256 ≡ c .before .before .before .before .before .args .len / 256 = omega arith in
-    rw (c .before .before .write32 .ensures, next, high)
+    rw (c .before .before .write32 .ensures, next, high) refl
 
 pub put-frame-spec : {M : Type 1} → statement M
 put-frame-spec =

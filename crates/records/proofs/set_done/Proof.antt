@@ -1,4 +1,5 @@
 -- `records::set_done` meets its contract: one byte gets its lowest bit. Assumes nothing.
+use mathlib.Core.Path.{refl}
 use native.Mathlib.Omega.{arith}
 use Rattle.records.specs.Card.{doneByte, doneRule}
 use borrow.Author.Needs.{needs}
@@ -34,7 +35,7 @@ same-length c = search needs
 
 returns : tie.Need-returns
 unfolding doneRule
-returns c = search needs
+returns c = refl
 
 pub set-done-spec : {M : Type 1} → statement M
 set-done-spec =

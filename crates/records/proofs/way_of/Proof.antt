@@ -1,5 +1,5 @@
 -- `records::way_of` meets its contract: the tests in order. Assumes nothing.
-use mathlib.Core.Path.{sym, _∙_}
+use mathlib.Core.Path.{refl, sym, _∙_}
 use borrow.Author.Needs.{needs}
 use borrow.Author.Tests.{eq-eqb, ne-eqb, not-true, not-false}
 use Rattle.records.specs.Records.{wayOf}
@@ -11,11 +11,11 @@ kind-requires c κs = search needs
 
 returns : tie.Need-returns
 unfolding wayOf
-returns c = simp (not-true (c .before .before .before .args .begun) (c .before .before .if1 .taken), eq-eqb _ _ (sym (c .before .kind .ensures) ∙ c .if2 .taken))
+returns c = simp (not-true (c .before .before .before .args .begun) (c .before .before .if1 .taken), eq-eqb _ _ (sym (c .before .kind .ensures) ∙ c .if2 .taken)) refl
 
 returns-2 : tie.Need-returns-2
 unfolding wayOf
-returns-2 c = simp (not-true (c .before .before .before .args .begun) (c .before .before .if1 .taken), ne-eqb _ _ (rw (c .before .kind .ensures) at (c .if2 .left)))
+returns-2 c = simp (not-true (c .before .before .before .args .begun) (c .before .before .if1 .taken), ne-eqb _ _ (rw (c .before .kind .ensures) at (c .if2 .left))) refl
 
 is-allowed-requires : tie.Need-is-allowed-requires
 is-allowed-requires c κs = search needs

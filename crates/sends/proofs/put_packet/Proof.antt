@@ -1,5 +1,6 @@
 -- `sends::put_packet` meets its contract: the descriptor is that of the handle's address and length, the id stands at its slot, and the hand at its
 -- id. Assumes nothing.
+use mathlib.Core.Path.{refl}
 use borrow.Author.Needs.{needs}
 use Rattle.rules.specs.Send.{packetSent}
 use Rattle.sends.proofs.put_packet.Statement.{statement}
@@ -52,7 +53,7 @@ same-length c = search needs
 
 returns : tie.Need-returns
 unfolding packetSent
-returns c count = rw (c .before .before .describe .ensures, c .before .before .before .before .before .address-plus .ensures)
+returns c count = rw (c .before .before .describe .ensures, c .before .before .before .before .before .address-plus .ensures) refl
 
 pub put-packet-spec : {M : Type 1} → statement M
 put-packet-spec =

@@ -1,4 +1,5 @@
 -- `service::off` meets its contract: the list's action at the place that a test found, and Done past them all. Assumes nothing.
+use mathlib.Core.Path.{refl}
 use borrow.Author.Needs.{needs}
 use Rattle.service.proofs.Lists.{past}
 use Rattle.service.proofs.off.Statement.{statement}
@@ -20,7 +21,7 @@ register-requires : tie.Need-register-requires
 register-requires c κs = search needs
 
 returns-2 : tie.Need-returns-2
-returns-2 c = rw (c .before .before .if2 .taken, c .register .ensures, c .before .changed-word .ensures, c .before .before .before .before .queue-bit .ensures)
+returns-2 c = rw (c .before .before .if2 .taken, c .register .ensures, c .before .changed-word .ensures, c .before .before .before .before .queue-bit .ensures) refl
 
 register-requires-2 : tie.Need-register-requires-2
 register-requires-2 c κs = search needs

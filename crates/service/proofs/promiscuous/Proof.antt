@@ -1,5 +1,5 @@
 -- `service::promiscuous` meets its contract: the list's action at the place that a test found, guarded. Assumes nothing.
-use mathlib.Core.Path.{_∙_}
+use mathlib.Core.Path.{refl, _∙_}
 use borrow.Author.Needs.{needs}
 use Rattle.service.specs.Actions.{promiscCall}
 use Rattle.service.proofs.Lists.{past}
@@ -37,7 +37,7 @@ guard-requires-3 c κs = search needs
 
 returns-3 : tie.Need-returns-3
 unfolding promiscCall
-returns-3 c = c .guard3 .ensures ∙ rw (c .before .before .before .before .if2 .taken, c .before .before .if3 .left, c .before .before .before .register .ensures, c .before .changed-word2 .ensures)
+returns-3 c = c .guard3 .ensures ∙ rw (c .before .before .before .before .if2 .taken, c .before .before .if3 .left, c .before .before .before .register .ensures, c .before .changed-word2 .ensures) refl
 
 returns-4 : tie.Need-returns-4
 unfolding promiscCall

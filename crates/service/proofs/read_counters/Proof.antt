@@ -1,6 +1,6 @@
 -- `service::read_counters` meets its contract: the list's action at a place is the read of the row that the table has there. Assumes nothing.
 use Prim.Native.Nat.{ℕ, _<_}
-use mathlib.Core.Path.{_≡_, _∙_}
+use mathlib.Core.Path.{_≡_, refl, _∙_}
 use mathlib.Core.Bool.{true}
 use mathlib.Core.List.{List}
 use borrow.Author.Needs.{needs}
@@ -39,7 +39,7 @@ guard-requires c κs = search needs
 
 returns : tie.Need-returns
 unfolding countersCall
-returns c = c .guard .ensures ∙ rw (row-read _ (c .before .before .if1 .taken), c .before .read .ensures)
+returns c = c .guard .ensures ∙ rw (row-read _ (c .before .before .if1 .taken), c .before .read .ensures) refl
 
 returns-2 : tie.Need-returns-2
 unfolding countersCall

@@ -1,5 +1,5 @@
 -- `service::write_mac` meets its contract: the list's action at the place that a test found, guarded. Assumes nothing.
-use mathlib.Core.Path.{_∙_}
+use mathlib.Core.Path.{refl, _∙_}
 use borrow.Author.Needs.{needs}
 use Rattle.service.specs.Actions.{setMacCall}
 use Rattle.service.proofs.Lists.{past}
@@ -17,7 +17,7 @@ guard-requires c κs = search needs
 
 returns : tie.Need-returns
 unfolding setMacCall
-returns c = c .guard .ensures ∙ rw (c .before .before .before .if1 .taken, c .before .before .register .ensures, c .before .low-word .ensures)
+returns c = c .guard .ensures ∙ rw (c .before .before .before .if1 .taken, c .before .before .register .ensures, c .before .low-word .ensures) refl
 
 register-requires-2 : tie.Need-register-requires-2
 register-requires-2 c κs = search needs

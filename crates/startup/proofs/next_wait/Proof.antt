@@ -1,4 +1,5 @@
 -- `startup::next_wait` meets its contract: the tests in order. Assumes nothing.
+use mathlib.Core.Path.{refl}
 use borrow.Author.Needs.{needs}
 use borrow.Author.Tests.{eq-eqb, ne-eqb}
 use Rattle.startup.specs.Machine.{waiting}
@@ -17,7 +18,7 @@ sub-if2 c = search needs
 
 returns-2 : tie.Need-returns-2
 unfolding waiting
-returns-2 c = simp (ne-eqb _ _ (c .before .if1 .left), eq-eqb _ _ (c .if2 .taken))
+returns-2 c = simp (ne-eqb _ _ (c .before .if1 .left), eq-eqb _ _ (c .if2 .taken)) refl
 
 returns-3 : tie.Need-returns-3
 unfolding waiting

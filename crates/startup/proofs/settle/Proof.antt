@@ -1,4 +1,5 @@
 -- `startup::settle` meets its contract: each action by its name. Assumes nothing.
+use mathlib.Core.Path.{refl}
 use borrow.Author.Needs.{needs}
 use Rattle.startup.proofs.settle.Statement.{statement}
 use Rattle.startup.proofs.settle.Tie as tie
@@ -40,7 +41,7 @@ returns-4 : tie.Need-returns-4
 returns-4 c = rw (c .enum-told4 .given .1)
 
 returns-5 : tie.Need-returns-5
-returns-5 c = rw (c .before .action .given .1)
+returns-5 c = rw (c .before .action .given .1) refl
 
 pub settle-spec : {M : Type 1} → statement M
 settle-spec =

@@ -1,4 +1,5 @@
 -- `stats::added` meets its contract: each sum is the one that the addition ensures. Assumes nothing.
+use mathlib.Core.Path.{refl}
 use borrow.Author.Needs.{needs}
 use Rattle.stats.specs.Sums.{withMore}
 use Rattle.stats.proofs.added.Statement.{statement}
@@ -48,7 +49,7 @@ wrapping-add-u64-requires-4 c κs = search needs
 
 returns : tie.Need-returns
 unfolding withMore
-returns c = rw (c .before .before .before .before .before .wrapping-add-u64 .ensures, c .before .before .before .before .wrapping-add-u642 .ensures, c .before .before .wrapping-add-u643 .ensures, c .before .before .before .byte-count .ensures, c .wrapping-add-u644 .ensures, c .before .byte-count2 .ensures)
+returns c = rw (c .before .before .before .before .before .wrapping-add-u64 .ensures, c .before .before .before .before .wrapping-add-u642 .ensures, c .before .before .wrapping-add-u643 .ensures, c .before .before .before .byte-count .ensures, c .wrapping-add-u644 .ensures, c .before .byte-count2 .ensures) refl
 
 pub added-spec : {M : Type 1} → statement M
 added-spec =

@@ -1,5 +1,6 @@
 -- `tally::counted` meets its contract: the lists have no more than there are entries. Assumes nothing.
 use Prim.Native.Nat.{_+_, _≤_}
+use mathlib.Core.Path.{refl}
 use native.Mathlib.Omega.{arith}
 use Rattle.limits.specs.Limits.{ENTRIES}
 use Rattle.laws.proofs.Test.{every-all}
@@ -39,7 +40,7 @@ sub-t10 c = omega (arith, c .before .before .all-pending .ensures .0, enough (c 
 
 returns : tie.Need-returns
 unfolding tallyOf
-returns c = rw (c .before .ring-count .ensures, c .before .before .all-pending .ensures .0)
+returns c = rw (c .before .ring-count .ensures, c .before .before .all-pending .ensures .0) refl
 
 pub counted-spec : {M : Type 1} → statement M
 counted-spec =

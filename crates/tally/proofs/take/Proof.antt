@@ -1,6 +1,6 @@
 -- `tally::take` meets its contract: the taken handle is remembered, and the account is sound. Assumes nothing.
 use Prim.Native.Nat.{_<_}
-use mathlib.Core.Path.{_≡_}
+use mathlib.Core.Path.{_≡_, refl}
 use mathlib.Core.Bool.{true}
 use native.Mathlib.Omega.{arith}
 use Rattle.limits.specs.Limits.{ENTRIES}
@@ -56,7 +56,7 @@ answered-requires-2 c κs = left-sound (c .before .before .before .before .befor
 
 returns : tie.Need-returns
 unfolding takeAnswer
-returns c = rw (c .answered .ensures, c .before .refusal-number .ensures, ← c .before .before .before .before .before .before .take .ensures, c .before .before .before .verdict .given .1)
+returns c = rw (c .answered .ensures, c .before .refusal-number .ensures, ← c .before .before .before .before .before .before .take .ensures, c .before .before .before .verdict .given .1) refl
 
 same-length : tie.Need-same-length
 same-length c = search needs
@@ -66,7 +66,7 @@ same-length-2 c = search needs
 
 returns-2 : tie.Need-returns-2
 unfolding takeAnswer
-returns-2 c = rw (c .answered2 .ensures, ← c .before .before .before .before .before .before .take .ensures, c .before .before .before .enum-told .given .1)
+returns-2 c = rw (c .answered2 .ensures, ← c .before .before .before .before .before .before .take .ensures, c .before .before .before .enum-told .given .1) refl
 
 pub take-spec : {M : Type 1} → statement M
 take-spec =

@@ -71,7 +71,7 @@ returns c =
     let a = entry (first (second w)) .args in
     paid w
     ∙ ap (putLe 4 (slotAt (a .slot) + 12) (payloadOf (a .len)))
-      (commanded (second w) ∙ ap (putLe 4 (slotAt (a .slot) + 8) (commandOf (a .len))) (addressed (first (second w))))
+    (commanded (second w) ∙ ap (putLe 4 (slotAt (a .slot) + 8) (commandOf (a .len))) (addressed (first (second w))))
 
 pub describe-spec : {M : Type 1} → statement M
 describe-spec =

@@ -33,7 +33,7 @@ returns c = simp (sym (c .before .passes .ensures .0) ∙ not-true _ (c .if1 .ta
 
 returns-2 : tie.Need-returns-2
 unfolding ratedCall
-returns-2 c = simp (passed (c .before .before), le-ltb _ _ (c .if2 .taken))
+returns-2 c = simp (passed (c .before .before), le-ltb _ _ (c .if2 .taken)) refl
 
 take-rate-requires : tie.Need-take-rate-requires
 take-rate-requires c κs =
@@ -48,14 +48,14 @@ unfolding ratedCall
 returns-3 c =
     let taken = c .before .before .before in
     rw (taken .take-rate .ensures)
-    (simp (passed (taken .before .before .before), lt-ltb _ _ (taken .before .if2 .left), eq-eqb _ _ (c .if3 .taken), either-true))
+    (simp (passed (taken .before .before .before), lt-ltb _ _ (taken .before .if2 .left), eq-eqb _ _ (c .if3 .taken), either-true) refl)
 
 returns-4 : tie.Need-returns-4
 unfolding ratedCall
 returns-4 c =
     let taken = c .before .before .before in
     rw (taken .take-rate .ensures)
-    (simp (passed (taken .before .before .before), lt-ltb _ _ (taken .before .if2 .left), ne-eqb _ _ (c .if3 .left), at-most))
+    (simp (passed (taken .before .before .before), lt-ltb _ _ (taken .before .if2 .left), ne-eqb _ _ (c .if3 .left), at-most) refl)
 
 pub rated-spec : {M : Type 1} → statement M
 rated-spec =

@@ -1,6 +1,6 @@
 -- `window::Window::take_rate` meets its contract: by whether R are held with the new one. Assumes nothing.
 use Prim.Native.Nat.{_+_}
-use mathlib.Core.Path.{_≡_, sym, _∙_}
+use mathlib.Core.Path.{_≡_, refl, sym, _∙_}
 use native.Mathlib.Nat.{sub-zero}
 use native.Mathlib.Omega.{arith}
 use lib.ListN.{length}
@@ -39,7 +39,7 @@ slide-requires c κs =
 
 returns : tie.Need-returns
 unfolding withRate
-returns c = rw (c .slide .ensures) (simp (sym (c .before .before .before .is-full .ensures) ∙ c .before .before .if1 .taken))
+returns c = rw (c .slide .ensures) (simp (sym (c .before .before .before .is-full .ensures) ∙ c .before .before .if1 .taken) refl)
 
 mul-self : tie.Need-mul-self
 mul-self c = search needs
