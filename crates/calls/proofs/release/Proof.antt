@@ -18,7 +18,7 @@ release-requires : tie.Need-release-requires
 release-requires c κs = sym (c .before .is-sound .ensures) ∙ not-false _ (c .if1 .left)
 
 returns-2 : tie.Need-returns-2
-returns-2 c = search needs
+returns-2 c = c .release .ensures
 
 pub release-spec : {M : Type 1} → statement M
 release-spec = tie.close (tie.spec is-sound-requires returns release-requires returns-2)

@@ -21,7 +21,7 @@ take-requires : tie.Need-take-requires
 take-requires c κs = sym (c .before .is-sound .ensures) ∙ not-false _ (c .if1 .left)
 
 returns-2 : tie.Need-returns-2
-returns-2 c = search needs
+returns-2 c = c .take .ensures
 
 pub take-spec : {M : Type 1} → statement M
 take-spec =

@@ -1,9 +1,16 @@
 -- `stats::added` meets its contract: each sum is the one that the addition ensures. Assumes nothing.
-use mathlib.Core.Path.{refl}
+use mathlib.Core.Path.{_≡_}
 use borrow.Author.Needs.{needs}
-use Rattle.stats.specs.Sums.{withMore}
+use Rattle.stats.specs.Sums.{byteCount, word, withMore}
 use Rattle.stats.proofs.added.Statement.{statement}
 use Rattle.stats.proofs.added.Tie as tie
+
+-- which words make the bytes received, and the bytes sent
+received-bytes : (c : tie.After-byte-count) → let words = c .before .before .before .args .t2 in c .byte-count .result ≡ byteCount (word words 2) (word words 3)
+received-bytes c = c .byte-count .ensures
+
+sent-bytes : (c : tie.After-byte-count2) → let words = c .before .before .before .before .before .args .t2 in c .byte-count2 .result ≡ byteCount (word words 4) (word words 5)
+sent-bytes c = c .byte-count2 .ensures
 
 array-read-wrapping-add-u64 : tie.Need-array-read-wrapping-add-u64
 array-read-wrapping-add-u64 c = search needs
@@ -49,7 +56,15 @@ wrapping-add-u64-requires-4 c κs = search needs
 
 returns : tie.Need-returns
 unfolding withMore
-returns c = rw (c .before .before .before .before .before .wrapping-add-u64 .ensures, c .before .before .before .before .wrapping-add-u642 .ensures, c .before .before .wrapping-add-u643 .ensures, c .before .before .before .byte-count .ensures, c .wrapping-add-u644 .ensures, c .before .byte-count2 .ensures) refl
+returns c =
+    rw (
+      c .before .before .before .before .before .wrapping-add-u64 .ensures,
+      c .before .before .before .before .wrapping-add-u642 .ensures,
+      c .before .before .wrapping-add-u643 .ensures,
+      received-bytes (c .before .before .before),
+      c .wrapping-add-u644 .ensures,
+      sent-bytes (c .before),
+    )
 
 pub added-spec : {M : Type 1} → statement M
 added-spec =

@@ -1,4 +1,5 @@
 -- `tally::last_handle` meets its contract: an id beyond the lists has nothing remembered. Assumes nothing.
+use mathlib.Core.Path.{refl}
 use lib.ListN.{List·getD-eq-default}
 use native.Mathlib.Omega.{arith}
 use borrow.Author.Needs.{needs}
@@ -18,7 +19,7 @@ shared-slice-read-t11 : tie.Need-shared-slice-read-t11
 shared-slice-read-t11 c = search needs
 
 returns : tie.Need-returns
-returns c = search needs
+returns c = refl
 
 returns-2 : tie.Need-returns-2
 returns-2 c = rw (List·getD-eq-default (c .before .args .offsets .now) 0 {n = c .before .args .id} (omega arith), List·getD-eq-default (c .before .args .lengths .now) 0 {n = c .before .args .id} (omega arith))
