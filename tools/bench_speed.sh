@@ -4,7 +4,7 @@ set -eu
 cd "$(dirname "$0")/.."
 records=$(mktemp)
 trap 'rm -f "$records"' EXIT
-python3 -B tools/bench_streams.py steady 1000000 > "$records"
+python3 tools bench steady 1000000 > "$records"
 TIMEFORMAT=%R
 for _ in 1 2 3; do
     { time target/bin/bench < "$records" > /dev/null; } 2>&1
