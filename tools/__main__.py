@@ -29,17 +29,15 @@ BENCH_RECORDS = 20000  # of a random stream for `bench`
 # ---- stored streams
 
 
-def bytes_of(name):
+def records_of(name):
     """The records of a stored stream."""
-    return compare.stored.stored(ROOT, name).records.read_bytes()
+    return compare.stored.read(compare.stored.stored(ROOT, name).records)
 
 
-def case_of(name, record):
-    """The case of a record of a stored stream, in words."""
-    for case, first, last in scenes.cases(name, bytes_of(name)):
-        if first <= record <= last:
-            return f"case {case}"
-    return "no case"
+def place(name, line):
+    """What stands in a line of a stored stream: for `replay` a record, and the case that it belongs to."""
+    cases = scenes.cases(name, records_of(name))
+    return next((f"record {line}, case {case}" for case, first, last in cases if first <= line <= last), f"line {line}")
 
 
 def stored_make(given):
@@ -52,16 +50,16 @@ def stored_make(given):
         records = compare.stored.stored(ROOT, name).records
         records.parent.mkdir(parents=True, exist_ok=True)
         records.write_bytes(scenes.made(name))
-    for one in compare.stored.all_stored(ROOT):
-        if asked(one.name):
-            one.lines.write_text(compare.stored.model_lines(one))
-            print(f"{one.name}: {one.records.stat().st_size} bytes of records, {one.lines.stat().st_size} of lines")
-    return True
+    streams = [one for one in compare.stored.all_stored(ROOT) if asked(one.name)]
+    for one in streams:
+        one.lines.write_text(compare.stored.model_lines(one))
+        print(f"{one.name}: {one.records.stat().st_size} bytes of records, {one.lines.stat().st_size} of lines")
+    return bool(streams)
 
 
 def stored_check(given):
     """Makes the stored lines anew, and with --scenes the streams."""
-    right = compare.stored.check_lines(compare.stored.all_stored(ROOT), case_of)
+    right = compare.stored.check_lines(compare.stored.all_stored(ROOT), place)
     if given.scenes:
         right &= compare.stored.check_records(ROOT, ((name, scenes.made(name)) for name in scenes.names()))
     return right
@@ -69,15 +67,14 @@ def stored_check(given):
 
 def stored_run(given):
     """Runs a program on each stored stream of a folder."""
-    streams = compare.stored.in_folder(ROOT, given.folder.rstrip("/"))
-    return compare.stored.run(streams, [given.program, *given.arguments], case_of)
+    return compare.stored.run(compare.stored.in_folder(ROOT, given.folder), [given.program, *given.arguments], place)
 
 
 def cases(_):
     """Prints which records of which stream each case has."""
     print("| case | stream | records |", "|---|---|---|", sep="\n")
     for one in compare.stored.all_stored(ROOT):
-        for case, first, last in scenes.cases(one.name, one.records.read_bytes()):
+        for case, first, last in scenes.cases(one.name, records_of(one.name)):
             print(f"| {case} | {one.name} | {first} to {last} |" if first < last else f"| {case} | {one.name} | {first} |")
     return True
 
@@ -85,49 +82,61 @@ def cases(_):
 # ---- comparisons
 
 
-def seeds(given):
-    """As many seeds as are asked for."""
-    return range(given.seed, given.seed + given.count)
+def by_seed(given, make):
+    """As many random things as are asked for, with their seeds."""
+    return ((f"seed {seed}", make(seed)) for seed in range(given.seed, given.seed + given.count))
+
+
+def numbered(streams):
+    """Streams with their numbers."""
+    return ((f"stream {number}", stream) for number, stream in enumerate(streams, 1))
+
+
+def start_up_stream(seed):
+    """Random start-ups."""
+    return bytes(start_ups.random_start_ups(seed).bytes)
+
+
+def command_and_memory(given):
+    """How `replay` is run, or a host that is told how much packet memory to lend, and how much there is."""
+    return ([given.program], MEMORY) if given.memory is None else ([given.program, str(given.memory)], given.memory)
 
 
 def compare_replay(given):
-    """Compares `replay`, or a host that is told how much packet memory to lend."""
-    host = given.memory is not None
-    memory = given.memory if host else MEMORY
+    """Compares `replay` or a host."""
+    command, memory = command_and_memory(given)
     folder = {MEMORY: "tests/replay", HOST_MEMORY: "tests/replay_host"}.get(memory)
     stored = compare.stored.in_folder(ROOT, folder) if folder else []
     groups = (
-        ("stored", (one.records.read_bytes() for one in stored)),
-        ("empty", [b""]),
-        ("not good", bad_records.bad_streams(memory)),
-        ("random", (random_records.random_stream(seed, given.size, memory).bytes for seed in seeds(given))),
-        ("start-ups", (start_ups.random_start_ups(seed).bytes for seed in seeds(given))),
+        ("stored", ((one.name, records_of(one.name)) for one in stored)),
+        ("empty", numbered([b""])),
+        ("not good", numbered(bad_records.bad_streams(memory))),
+        ("random", by_seed(given, lambda seed: bytes(random_records.random_stream(seed, given.size, memory).bytes))),
+        ("start-ups", by_seed(given, start_up_stream)),
     )
-    return compare.models.compare_replay([given.program, *[str(memory)] * host], memory, groups)
+    return compare.models.compare_replay(command, memory, groups)
 
 
 def compare_bench(given):
     """Compares `bench`."""
     groups = (
-        ("worked", bench.worked_streams()),
-        ("random", (bench_random.shifted_stream(seed, BENCH_RECORDS) for seed in seeds(given))),
-        ("cut", (bench_random.cut_stream(seed, BENCH_RECORDS) for seed in seeds(given))),
+        ("worked", numbered(bench.worked_streams())),
+        ("random", by_seed(given, lambda seed: bench_random.shifted_stream(seed, BENCH_RECORDS))),
+        ("cut", by_seed(given, lambda seed: bench_random.cut_stream(seed, BENCH_RECORDS))),
     )
     return compare.models.compare_bench([given.program], groups)
 
 
 def rust_rings(given):
-    """Compares `replay` with the Rust's pool and rings."""
-    host = given.memory is not None
-    memory = given.memory if host else MEMORY
-    scripts = (rust_domain.script(seed, memory) for seed in seeds(given))
-    return rust.rings.compare(given.source, [given.program, *[str(memory)] * host], scripts)
+    """Compares `replay` or a host with the Rust's pool and rings."""
+    command, memory = command_and_memory(given)
+    return rust.rings.compare(given.source, command, by_seed(given, lambda seed: rust_domain.script(seed, memory)))
 
 
 def rust_start_ups(given):
     """Compares `replay` with the Rust's start-up."""
-    random = ((f"seed {seed}", bytes(start_ups.random_start_ups(seed).bytes)) for seed in seeds(given))
-    return rust.start_ups.compare(given.source, [given.program], chain([("recorded", bytes_of(RECORDED))], random))
+    recorded = [("recorded", records_of(RECORDED))]
+    return rust.start_ups.compare(given.source, [given.program], chain(recorded, by_seed(given, start_up_stream)))
 
 
 def bench_steady(given):
@@ -138,7 +147,7 @@ def bench_steady(given):
 
 # ---- the command
 
-PROGRAM, FOLDER = ("program", {}), ("folder", {})
+PROGRAM, FOLDER = ("program", {}), ("folder", {"choices": list(compare.stored.FOLDERS)})
 SOURCE = ("source", {"help": "a folder of ixy.rs, with src/ixgbe.rs, src/memory.rs and src/vfio.rs in it"})
 NAMES = ("names", {"nargs": "*", "help": "of streams, as tests/replay/take or take; all if there is none"})
 ARGUMENTS = ("arguments", {"nargs": "*", "help": "of the program, after --"})
@@ -162,15 +171,15 @@ COMMANDS = (
 
 def parser():
     """The words of every command."""
-    each = "\n".join(f"  {name:16}{help}" for name, _, help, _ in COMMANDS)
+    each = "\n".join(f"  {name:16}{does}" for name, _, does, _ in COMMANDS)
     words = argparse.ArgumentParser("python3 tools", formatter_class=argparse.RawDescriptionHelpFormatter, description=f"commands:\n{each}")
     groups = {"": words.add_subparsers(required=True, metavar="COMMAND", help="see above")}
-    for name, does, help, arguments in COMMANDS:
+    for name, call, does, arguments in COMMANDS:
         group, _, last = name.rpartition(" ")
         if group not in groups:
             groups[group] = groups[""].add_parser(group).add_subparsers(required=True, metavar="COMMAND")
-        command = groups[group].add_parser(last, help=help, description=help)
-        command.set_defaults(does=does)
+        command = groups[group].add_parser(last, help=does, description=does)
+        command.set_defaults(call=call)
         for argument, options in arguments:
             command.add_argument(argument, **options)
     return words
@@ -178,4 +187,4 @@ def parser():
 
 if __name__ == "__main__":
     given = parser().parse_args()
-    sys.exit(0 if given.does(given) else 1)
+    sys.exit(0 if given.call(given) else 1)

@@ -19,19 +19,19 @@ def bench_answer(line):
 
 
 def compared(command, model, answer, groups):
-    """Whether a program prints of every stream what the model does. The streams stand in groups, each with its name."""
+    """Whether a program prints of every stream what the model does. The streams stand in groups; a group and a stream have names."""
     answers, differ = Counter(), 0
-    for name, streams in groups:
+    for group, streams in groups:
         count = lines = longest = 0
-        for count, stream in enumerate(map(bytes, streams), 1):
+        for count, (name, stream) in enumerate(streams, 1):
             right = list(model(stream))
             answers.update(map(answer, right))
             difference = first_difference(printed(command, stream), text(right))
             if difference:
-                tell(f"{name}, stream {count}, line {difference.line}", difference)
+                tell(f"{group}, {name}, line {difference.line}", difference)
                 differ += 1
             lines, longest = lines + len(right), max(longest, len(stream))
-        print(f"{name}: {count} streams, the longest of {longest} bytes, {lines} lines", flush=True)
+        print(f"{group}: {count} streams, the longest of {longest} bytes, {lines} lines", flush=True)
     print(*(f"{name} {often}" for name, often in sorted(answers.items())), f"{differ} streams differ", sep="\n")
     return differ == 0
 

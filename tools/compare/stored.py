@@ -21,8 +21,14 @@ def stored(root, name):
 
 
 def in_folder(root, folder):
-    """The stored streams of a folder."""
-    return [stored(root, f"{folder}/{path.stem}") for path in sorted((root / folder).glob("*.in"))]
+    """The stored streams of a folder, also one of which only the lines are there."""
+    names = {path.stem for path in (root / folder).glob("*")}
+    return [stored(root, f"{folder}/{name}") for name in sorted(names)]
+
+
+def read(path):
+    """A stored file, which is empty if it is not there."""
+    return path.read_bytes() if path.exists() else b""
 
 
 def all_stored(root):
@@ -30,41 +36,46 @@ def all_stored(root):
     return [one for folder in FOLDERS for one in in_folder(root, folder)] + [stored(root, name) for name in CRATES]
 
 
+def stored_lines(one):
+    """The stored lines."""
+    return read(one.lines).decode()
+
+
 def model_lines(one):
-    """The lines that the model gives a stored stream."""
-    return text(one.model(one.records.read_bytes()))
+    """The lines that the model gives the stored records."""
+    return text(one.model(read(one.records)))
 
 
-def equal_lines(streams, found, right, case):
-    """Whether two texts of each stream are equal. Where one is not, its stream, record and case are told; `case` names a record's case."""
+def equal_lines(streams, found, right, place):
+    """Whether two texts of each stream are equal. Where they are not, `place` says what stands in the first line that differs."""
     lines = differ = 0
     for one in streams:
         wanted = right(one)
         difference = first_difference(found(one), wanted)
         if difference:
-            tell(f"{one.name}, record {difference.line}, {case(one.name, difference.line)}", difference)
+            tell(f"{one.name}, {place(one.name, difference.line)}", difference)
         lines, differ = lines + wanted.count("\n"), differ + (difference is not None)
-    print(f"{len(streams)} stored streams, {lines} lines, {differ} streams differ")
-    return differ == 0
+    print(f"{len(streams)} stored streams, {lines} lines: {differ} differ")
+    return differ == 0 and lines > 0
 
 
-def check_lines(streams, case):
+def check_lines(streams, place):
     """Whether the stored lines are the model's."""
-    return equal_lines(streams, lambda one: one.lines.read_text(), model_lines, case)
+    return equal_lines(streams, stored_lines, model_lines, place)
 
 
-def run(streams, command, case):
+def run(streams, command, place):
     """Whether a program prints the stored lines, and ends with status 0."""
-    return equal_lines(streams, lambda one: printed(command, one.records.read_bytes()), lambda one: one.lines.read_text(), case)
+    return equal_lines(streams, lambda one: printed(command, read(one.records)), stored_lines, place)
 
 
 def check_records(root, made):
-    """Whether the stored records are those of the scenes, which are given by the streams' names."""
-    differ = 0
-    for name, records in made:
-        found = stored(root, name).records.read_bytes()
+    """Whether the stored records are those of the scenes, which are given with the streams' names."""
+    count = differ = 0
+    for count, (name, records) in enumerate(made, 1):
+        found = read(stored(root, name).records)
         if found != records:
-            print(f"{name}: the stored records and those of its scenes differ from byte {len(os.path.commonprefix([found, records]))} on")
+            print(f"{name}: the stored records and those of its scene differ from byte {len(os.path.commonprefix([found, records]))} on")
             differ += 1
-    print(f"{differ} streams are not as their scenes make them")
+    print(f"{count} streams of scenes: {differ} differ")
     return differ == 0

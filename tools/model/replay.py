@@ -40,8 +40,8 @@ u8, u16, u32, u64 = map(cut_to, (8, 16, 32, 64))
 ACCOUNT_NUMBERS = {"pool": u32, "entries": u64, "size": u64, "receives": u64, "sends": u64, "depth": u64, "started": flag, "rx": u64}
 ACCOUNT_ARRAYS = {"free_ids": u16, "hands": u8, "slots": u16, "sent": u16, "clean": u64, "tx": u64}
 ACCOUNT_FIELDS = ACCOUNT_NUMBERS | ACCOUNT_ARRAYS
-STATE_NUMBERS = {"map_length": u64, "receives": u64, "sends": u64, "tries": u64, "kind": kind_of, "rate": u32}
-STATE_FIELDS = STATE_NUMBERS | {"addresses": u64, "place": u64, "made": u64, "kept": u32}
+STATE_FIELDS = {"map_length": u64, "receives": u64, "sends": u64, "tries": u64, "kind": kind_of, "rate": u32}
+STATE_FIELDS |= {"addresses": u64, "place": u64, "made": u64, "kept": u32}
 WINDOW_FIELDS = {"size": u64, "threshold": u64, "interval": u64, "on": flag, "calls": u64, "sum": u64, "count": u64, "rates": u32}
 
 
@@ -98,6 +98,7 @@ class Host:
     """What `replay` keeps, and for each kind of record a method, which answers the rest of the record's line."""
 
     def __init__(self, memory=MEMORY):
+        """Everything is 0 at the start."""
         self.account = Account()
         self.account.free_ids = [0] * ENTRIES
         self.rings = [bytearray(PLACES) for _ in range(RINGS)]

@@ -96,16 +96,16 @@ def shown(title, counts):
 
 
 def compare(source, command, scripts):
-    """Whether the lines of all scripts are equal. What the scripts did is printed."""
-    number = lines = differ = 0
+    """Whether the lines of all scripts, each with its name, are equal. What the scripts did is printed."""
+    count = lines = differ = 0
     calls, reached, listed = Counter(), Counter(), Counter()
     with built("rings.rs", source, ITEMS, ROOTS) as rust:
-        for number, script in enumerate(scripts, 1):
+        for count, (name, script) in enumerate(scripts, 1):
             stream = bytes(script.bytes)
-            differ += not equal(f"script {number}", output(command, stream), output([rust], stream), script.count, listed)
+            differ += not equal(name, output(command, stream), output([rust], stream), script.count, listed)
             lines, calls, reached = lines + script.count, calls + script.calls, reached + script.reached
     del listed[None]
     stops = {stop: listed.pop(stop, 0) for stop in STOPS}
     print(shown("calls", calls), shown("receives stopped", stops), shown("reached", reached), shown("as docs/DIFFERENCES.md lists", listed), sep="\n")
-    print(f"{number} scripts, {calls.total()} calls, {lines} lines, {differ} scripts differ")
+    print(f"{count} scripts, {calls.total()} calls, {lines} lines, {differ} scripts differ")
     return differ == 0

@@ -125,12 +125,11 @@ def summary(tally, far):
 
 def compare(source, command, streams):
     """Whether all start-ups of some streams, each with its name, are equal."""
-    differ, tally, names = 0, Counter(), []
+    count, differ, tally = 0, 0, Counter()
     with built("start_ups.rs", source, ITEMS, ROOTS) as rust:
-        for name, stream in streams:
+        for count, (name, stream) in enumerate(streams, 1):
             differ += compare_stream(name, stream, command, rust, tally)
-            names.append(name)
     actions = tally.pop("actions")
     print(*(summary(tally, far) for far in (TO_THE_END, SO_FAR, NOT_PLAYED)), sep="\n")
-    print(f"{len(names)} streams, {tally.total()} start-ups, {actions} actions compared, {differ} start-ups differ")
+    print(f"{count} streams, {tally.total()} start-ups, {actions} actions compared, {differ} start-ups differ")
     return differ == 0

@@ -147,8 +147,8 @@ def forged_starts(s):
 def each_call_when_forged(s):
     """Every call on three accounts that are not sound, with everything shown before and after."""
     for name, value in (("depth", 5000), ("hands", 2), ("rx", SLOTS)):
-        base(s)
         s.case(f"every call with {name} {value}")
+        base(s)
         s.forge(name, value)
         s.look()
         s.lists(3)

@@ -7,8 +7,8 @@ from model.account import APPLICATION
 from model.limits import RING_BYTES, SLOT_BYTES, SLOTS
 from model.replay import LISTS
 
-ENTRIES = 1100
-PLACES = 12  # of each list, of which a call is lent the first ones
+ENTRIES = 1100  # of most accounts
+LIST_PLACES = 12  # of which a call is lent the first ones
 FILL = (0x5A5A5A5A, 0xA5A1, 0xA5A2, 0xA5A3)  # what stands in a list before a receive: no answer writes these
 
 # forged fields and their values
@@ -22,7 +22,7 @@ WRONG_LENGTHS = (
     ("addresses long", {"entries": ENTRIES + 1}),
 )
 POOLS_SHORT, IDS_SHORT, OFFSETS_SHORT, LENGTHS_SHORT = ({"rooms": [8 - (held == short) for held in range(LISTS)]} for short in range(LISTS))
-ALL_PLACES = {"rooms": [PLACES] * LISTS}
+ALL_PLACES = {"rooms": [LIST_PLACES] * LISTS}
 OTHER_POOL = (3, 8, 1056, 0, 1)
 
 
@@ -72,7 +72,7 @@ def show(s, lists=True):
     s.add("account")
     s.ring_digest(0, RING_BYTES + SLOT_BYTES)
     for held in range(LISTS if lists else 0):
-        s.list_digest(held, PLACES)
+        s.list_digest(held, LIST_PLACES)
 
 
 def start(s, name, account=idle, forged=(), **lent):
@@ -101,7 +101,7 @@ def receive(s, name, account=busy, forged=(), card=(8, 3, 60), n=8, rooms=(8, 8,
     prepare(s, account, forged)
     s.holds("ring", 0, written_by_card(*card))
     for held, value in enumerate(FILL):
-        s.holds("list", held, [value] * PLACES)
+        s.holds("list", held, [value] * LIST_PLACES)
     show(s)
     s.receive(n, rooms=rooms, **lent)
     show(s)

@@ -222,14 +222,14 @@ def cleaning_of_a_full_ring(s):
 
 def descriptors(s):
     """A buffer offered at slot 0 of the receive ring, and a packet of 60 bytes at slot 1 of a send ring, as the card gets them."""
+    s.case("a receive descriptor")
     s.fresh(514, 2048)
     s.add("take", 60)
     s.add("take", 60)
     s.add("addresses", 511, [0x7F0012345800, 0x7F0012346000])
     s.start()
-    s.handles([(7, 513, 32, 60), (7, 512, 32, 60)])
-    s.send(2)
-    s.case("a receive descriptor")
     s.slots(0, 0)
     s.case("a send descriptor")
+    s.handles([(7, 513, 32, 60), (7, 512, 32, 60)])
+    s.send(2)
     s.slots(1, 1)

@@ -5,7 +5,7 @@ The digests of the whole ring and of the lists are shown after each call.
 from model.limits import RING_BYTES, SLOT_BYTES, SLOTS
 from model.replay import LISTS
 
-ENTRIES = 1100
+ENTRIES = 1100  # of every account
 LISTED = 600  # the places of a list that are lent
 FIRST_ADDRESS = 0xFFFF_FFFF_FFFF_0000  # they pass 2^64 between two entries
 

@@ -15,18 +15,17 @@ REPLAY, REPLAY_HOST = "tests/replay", "tests/replay_host"
 
 # the scenes that make a stream each, which has the scene's name
 SCENES = [
-    *(packets.blank, packets.fresh, packets.take, packets.handles, packets.batch, packets.packet_memory, packets.large_memory),
-    *(packets.last_places, packets.digests),
-    *(each_number.packet_calls, each_number.clone_view_headroom, each_number.ring_calls),
-    *(rings.start, rings.receive_stops, rings.receive, rings.send, rings.send_done, rings.cleaning, rings.descriptors),
-    *(rounds.cleaning_rounds, rounds.full_ring_and_wrap, rounds.receive_across_the_end),
-    *(refusals.each_refusal_of_start, refusals.receive_to_each_stop),
-    *(refusals.each_refusal_of_receive, refusals.each_refusal_of_send, refusals.bad_handles),
-    *(forged_accounts.forged_accounts, forged_accounts.forged_indices, forged_accounts.forged_starts),
-    *(forged_accounts.out_past_the_entries, forged_accounts.each_call_when_forged),
-    *(registers.set_up, registers.start_ups, registers.waits, registers.maps, registers.forged_states),
-    *(registers.run_time_calls, registers.register_words, registers.statistics),
-    *(windows.window, windows.forged_windows),
+    packets.blank, packets.fresh, packets.take, packets.handles, packets.batch,
+    packets.packet_memory, packets.large_memory, packets.last_places, packets.digests,
+    each_number.packet_calls, each_number.clone_view_headroom, each_number.ring_calls,
+    rings.start, rings.receive_stops, rings.receive, rings.send, rings.send_done, rings.cleaning, rings.descriptors,
+    rounds.cleaning_rounds, rounds.full_ring_and_wrap, rounds.receive_across_the_end,
+    refusals.each_refusal_of_start, refusals.receive_to_each_stop, refusals.each_refusal_of_receive, refusals.each_refusal_of_send, refusals.bad_handles,
+    forged_accounts.forged_accounts, forged_accounts.forged_indices, forged_accounts.forged_starts,
+    forged_accounts.out_past_the_entries, forged_accounts.each_call_when_forged,
+    registers.set_up, registers.start_ups, registers.waits, registers.maps, registers.forged_states,
+    registers.run_time_calls, registers.register_words, registers.statistics,
+    windows.window, windows.forged_windows,
 ]
 HOST_SCENES = [packets.blank, packets.large_pools, packets.last_places]
 

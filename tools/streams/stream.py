@@ -57,11 +57,11 @@ class Stream:
 
     def calls(self, handle, entries, memory):
         """A record of each call, with a handle, so many addresses and so much packet memory."""
-        ring = RING_BYTES, entries
+        lent = RING_BYTES, entries
         return [
-            *(("counts",), ("take", 8), ("batch", 1, 8, 8, 8, 8, 8), ("release", *handle), ("truncate", *handle, 3)),
-            *(("clone", *handle, memory), ("view", *handle, memory), ("headroom", *handle, 3, memory, 0xEE)),
-            *(("start", 0, 0, *ring), ("receive", 0, 0, *ring, 1, 1, 1, 1, 1), ("send", 0, 1, *ring, 1, 1, 1, 1)),
+            ("counts",), ("take", 8), ("batch", 1, 8, 8, 8, 8, 8), ("release", *handle), ("truncate", *handle, 3),
+            ("clone", *handle, memory), ("view", *handle, memory), ("headroom", *handle, 3, memory, 0xEE),
+            ("start", 0, 0, *lent), ("receive", 0, 0, *lent, 1, 1, 1, 1, 1), ("send", 0, 1, *lent, 1, 1, 1, 1),
         ]
 
     def each_call(self, handle=(7, 0, 32, 8)):
