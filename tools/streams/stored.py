@@ -7,7 +7,7 @@ from functools import partial
 
 from model.framing import records
 from model.replay import HOST_MEMORY, MEMORY, NUMBERS, record
-from streams import bench, bench_random, each_number, forged_accounts, packets, refusals, registers, rings, rounds, windows
+from streams import bench, bench_random, each_number, each_refusal, forged_accounts, full_rings, packets, registers, rings, windows
 from streams.random_records import RandomStream
 from streams.stream import Stream, spans
 
@@ -19,8 +19,9 @@ SCENES = [
     packets.packet_memory, packets.large_memory, packets.last_places, packets.digests,
     each_number.packet_calls, each_number.clone_view_headroom, each_number.ring_calls,
     rings.start, rings.receive_stops, rings.receive, rings.send, rings.send_done, rings.cleaning, rings.descriptors,
-    rounds.cleaning_rounds, rounds.full_ring_and_wrap, rounds.receive_across_the_end,
-    refusals.each_refusal_of_start, refusals.receive_to_each_stop, refusals.each_refusal_of_receive, refusals.each_refusal_of_send, refusals.bad_handles,
+    full_rings.cleaning_rounds, full_rings.full_ring_and_wrap, full_rings.receive_across_the_end,
+    each_refusal.each_refusal_of_start, each_refusal.receive_to_each_stop, each_refusal.each_refusal_of_receive,
+    each_refusal.each_refusal_of_send, each_refusal.bad_handles,
     forged_accounts.forged_accounts, forged_accounts.forged_indices, forged_accounts.forged_starts,
     forged_accounts.out_past_the_entries, forged_accounts.each_call_when_forged,
     registers.set_up, registers.start_ups, registers.waits, registers.maps, registers.forged_states,

@@ -11,9 +11,11 @@ ENTRIES = 1100  # of most accounts
 LIST_PLACES = 12  # of which a call is lent the first ones
 FILL = (0x5A5A5A5A, 0xA5A1, 0xA5A2, 0xA5A3)  # what stands in a list before a receive: no answer writes these
 
-# forged fields and their values
+# fields that are forged, and their values
 FREE_COUNT_FORGED = [("depth", 5000)]
 HAND_FORGED = [("hands", APPLICATION)]
+
+# what a call is lent
 RING_SHORT = {"size": RING_BYTES - 1}
 WRONG_LENGTHS = (
     ("ring short", RING_SHORT),
@@ -23,7 +25,8 @@ WRONG_LENGTHS = (
 )
 POOLS_SHORT, IDS_SHORT, OFFSETS_SHORT, LENGTHS_SHORT = ({"rooms": [8 - (held == short) for held in range(LISTS)]} for short in range(LISTS))
 ALL_PLACES = {"rooms": [LIST_PLACES] * LISTS}
-OTHER_POOL = (3, 8, 1056, 0, 1)
+
+OTHER_POOL = (3, 8, 1056, 0, 1)  # a packet of another pool at index 3 of a send
 
 
 # ---- accounts
