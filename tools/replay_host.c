@@ -1,12 +1,13 @@
-// A host of the proved library `player`: lends it packet memory of the length that its one argument says, every byte 0, and the library plays
-// standard input as `replay` does (docs/REPLAY.md). tools/replay_host.sh builds it.
+// A host of the library `replay_host`: lends it packet memory of the length that its one argument says, every byte 0, and the library plays
+// standard input as the program `replay` does (docs/REPLAY.md). tools/replay_host.sh builds it.
 #include <errno.h>
 #include <stdint.h>
 #include <stdio.h>
 #include <stdlib.h>
 
-// crates/player/src/lib.rt; a lent slice is its address and its length.
-void yaltumbir_replay(uint8_t *memory, size_t bytes);
+// crates/replay_host/src/lib.rt; a lent slice is its address and its length.
+size_t yaltumbir_replay_kept(void);
+void yaltumbir_replay(uint8_t *bytes, size_t count);
 
 static int usage(void)
 {
@@ -20,16 +21,16 @@ int main(int count, char **words)
         return usage();
     char *end;
     errno = 0;
-    unsigned long long bytes = strtoull(words[1], &end, 10);
-    if (errno != 0 || *end != '\0' || bytes > SIZE_MAX)
+    unsigned long long memory = strtoull(words[1], &end, 10);
+    size_t kept = yaltumbir_replay_kept();
+    if (errno != 0 || *end != '\0' || memory > SIZE_MAX - kept)
         return usage();
-    // A lent slice of no bytes has an address too.
-    uint8_t *memory = calloc(bytes == 0 ? 1 : bytes, 1);
-    if (memory == NULL) {
+    uint8_t *bytes = calloc(kept + memory, 1);
+    if (bytes == NULL) {
         perror("replay_host");
         return 1;
     }
-    yaltumbir_replay(memory, bytes);
-    free(memory);
+    yaltumbir_replay(bytes, kept + memory);
+    free(bytes);
     return 0;
 }

@@ -1,16 +1,16 @@
-// Makes the public calls that the records on standard input describe, and prints their answers, with as much packet memory as the usual stack
-// has room for. docs/REPLAY.md has the format.
-// The file `stdin` is made by tools/replay_streams.py, and `stdout` by tools/replay_model.py.
+// Makes the public calls that the records on standard input describe, and prints their answers, with as much packet memory as a usual stack has
+// room for. docs/REPLAY.md has the format.
+use replay_calls::KEPT;
 
 // The bytes of packet memory.
-const MEMORY_BYTES: usize = 4194304;
+const MEMORY: usize = 0x40_0000;
 
-// Packet memory, every byte 0.
-fn blank_memory() -> [u8; MEMORY_BYTES] {
-    [0; MEMORY_BYTES]
+// What is kept before packet memory, and packet memory: every byte 0.
+fn blank() -> [u8; KEPT + MEMORY] {
+    [0; KEPT + MEMORY]
 }
 
 fn main() {
-    let mut memory = blank_memory();
-    player::yaltumbir_replay(&mut memory);
+    let mut bytes = blank();
+    replay_run::run(&mut bytes);
 }
