@@ -1,4 +1,4 @@
-"""The one command of tools/, beside the shell scripts and wrong_programs.py:
+"""The one command of tools/, beside the shell scripts:
 
     python3 tools --help
 
@@ -15,6 +15,7 @@ from pathlib import Path
 
 import compare.models
 import compare.stored
+import compare.wrong_programs
 import rust.rings
 import rust.start_ups
 from model.replay import HOST_MEMORY, MEMORY
@@ -145,6 +146,11 @@ def bench_steady(given):
     return True
 
 
+def wrong_programs(_):
+    """Prints what the refusals of the wrong programs show."""
+    return compare.wrong_programs.tell(ROOT)
+
+
 # ---- the command
 
 PROGRAM, FOLDER = ("program", {}), ("folder", {"choices": list(compare.stored.FOLDERS)})
@@ -165,6 +171,7 @@ COMMANDS = (
     ("compare bench", compare_bench, "compare bench with the model on worked, random and cut streams", [PROGRAM, COUNT, SEED]),
     ("rust rings", rust_rings, "compare replay with the Rust's pool and rings", [SOURCE, PROGRAM, COUNT, SEED, ("memory", LENT | {"nargs": "?"})]),
     ("rust start-ups", rust_start_ups, "compare replay with the Rust's start-up, recorded and random", [SOURCE, PROGRAM, COUNT, SEED]),
+    ("wrong-programs", wrong_programs, "print the fact that each must-fail edit of the last `rt ci` or `rt must-fail` shows", []),
     ("bench steady", bench_steady, "print records of steady traffic for bench", [COUNT]),
 )
 
