@@ -1,5 +1,8 @@
 // A batch of packets, for an account that is known to be sound: it makes every test but that one. Ported from src/memory.rs.
 // The call of crate `calls` makes the soundness test first, and then calls this.
+
+#![tactic(auto)]
+
 ghost use Rattle.std.specs.Prelude.{◌≡◌, true};
 ghost use Rattle.rules.specs.Handles.{handles};
 ghost use Rattle.rules.specs.Sound.{sound};

@@ -1,4 +1,7 @@
 // Serves many streams of the bench's records, one after the other. Each stands behind its length, a u32; after each comes a line `--`.
+
+#![tactic(auto)]
+
 ghost use Rattle.std.specs.Prelude.{◌≤◌, ◌<◌};
 
 use libc::{STDIN_FILENO, STDOUT_FILENO};

@@ -1,5 +1,8 @@
 // The public calls of the account. None asks anything of its caller: each tests the account first, refuses by document 01's table, and
 // leaves everything as it was where it refuses.
+
+#![tactic(auto)]
+
 ghost use Rattle.std.specs.Prelude.{◌≡◌};
 ghost use Rattle.rules.specs.Numbers.{refusal_number, number as number_of};
 ghost use Rattle.rules.specs.Handles.{handles};

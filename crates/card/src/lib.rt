@@ -1,5 +1,8 @@
 // The card's registers: one constant table with a register's address for a queue, and the words that are written and tested.
 // specs/Registers.antt has each register's datasheet name and section, specs/Masks.antt each word's bits.
+
+#![tactic(auto)]
+
 ghost use Rattle.std.specs.Prelude.{◌≡◌, ◌<◌, ◌≤◌};
 ghost use Rattle.limits.specs.Limits.{QUEUES};
 ghost use Rattle.card.specs.Registers.{ROWS, entry, address};

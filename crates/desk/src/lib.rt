@@ -1,5 +1,8 @@
 // Serves a stream of the bench's records: reads it from standard input, and prints a line for each record. Document 01, "The bench program".
 // What the records do and the lines that they give stand in `turns`. Here they are only read, handed on and printed.
+
+#![tactic(auto)]
+
 ghost use Rattle.std.specs.Prelude.{◌≡◌, ◌+◌, ◌≤◌, not, length, take, drop, nat_lt};
 ghost use Rattle.limits.specs.Limits.{ENTRIES, RING-BYTES};
 ghost use Rattle.laws.specs.Test.{both};

@@ -1,4 +1,7 @@
 // Document 01's numbers, each named once. specs/Limits.antt has the number of the same name, and `all` ties the two.
+
+#![tactic(auto)]
+
 ghost use Rattle.std.specs.Prelude.{◌≡◌};
 ghost use Rattle.limits.specs.Limits.{limits};
 

@@ -1,4 +1,7 @@
 // The lines of the bench: numbers in decimal, gathered in a buffer. Document 01, "The bench program".
+
+#![tactic(auto)]
+
 ghost use Rattle.std.specs.Prelude.{◌≡◌, [], ◌∷◌, ◌++◌, ◌+◌, ◌≤◌, ◌<◌, length, take};
 ghost use Rattle.lines.specs.Lines.{item, ITEM, TALLY, LINE, tally_text, good_text, bad_text, text_of};
 

@@ -1,5 +1,8 @@
 // What a call is lent. A list of handles is four parallel lists of numbers: room for so many, the handle at a place, a handle put at a place.
 // A ring is whole, and has one address for each entry beside it; a send ring has so many slots pending.
+
+#![tactic(auto)]
+
 ghost use Rattle.std.specs.Prelude.{◌≡◌, ◌+◌, ◌<◌, min};
 ghost use Rattle.limits.specs.Limits.{SLOTS};
 ghost use Rattle.rules.specs.Account.{waiting};

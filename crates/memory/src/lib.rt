@@ -1,5 +1,8 @@
 // Packet memory, for an account that is known to be sound: a packet's view, the headroom before it, and a clone with its bytes.
 // Ported from `Packet` of src/memory.rs.
+
+#![tactic(auto)]
+
 ghost use Rattle.std.specs.Prelude.{◌≡◌, true, ◌+◌, ◌*◌, ◌^◌, ◌≤◌, ◌<◌, min, max, length};
 ghost use Rattle.std.proofs.lemmas.List.Edits.{sets};
 ghost use Rattle.rules.specs.Sound.{sound};

@@ -1,5 +1,8 @@
 // The calls on one packet and the counts, for an account that is known to be sound: they make every test but that one. Ported from src/memory.rs.
 // Beside each stands its verdict. The calls of crate `calls` make the soundness test first, and then call these. A batch is in crate `batches`.
+
+#![tactic(auto)]
+
 ghost use Rattle.std.specs.Prelude.{◌≡◌, true, ◌≤◌, ◌<◌, take};
 ghost use Rattle.limits.specs.Limits.{ENTRIES};
 ghost use Rattle.laws.specs.Occurs.{occurs, up_from};

@@ -1,4 +1,7 @@
 // The parts of the start-up as tables: specs/Parts.antt has them under the datasheet's sections, and a constant array here is one of them.
+
+#![tactic(auto)]
+
 ghost use Rattle.std.specs.Prelude.{◌≡◌, ◌<◌, ◌≤◌, length, get_or};
 ghost use Rattle.parts.specs.Parts.{disable_interrupts, reset, ready, init_link, reset_stats, receive_off, receive_buffers, receive_offload, receive_queue, receive_snoop, receive_dca, receive_on, send_offload, send_buffers, send_arbiter, send_queue, send_on, start_receive_queue, start_send_queue, enable_msi, enable_msix, wait_for_link, PARTS, no_part, no_template, reset_parts, receive_parts, send_parts, start_parts, rows_of, part_rows, items_of};
 

@@ -1,4 +1,7 @@
 // The start-up as data: item k of the sequence is found from numbers, with no list at run time.
+
+#![tactic(auto)]
+
 ghost use Rattle.std.specs.Prelude.{◌≡◌, ◌/◌, ◌%◌, ◌^◌, ◌<◌, ◌≤◌, eqb, length, get_or};
 ghost use Rattle.limits.specs.Limits.{QUEUES};
 ghost use Rattle.laws.specs.Test.{pick};

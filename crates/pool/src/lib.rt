@@ -1,5 +1,8 @@
 // Packet buffers by id: the free stack, the handle that stands for a packet, and the hands that can have a buffer.
 // Ported from `Mempool` and `Packet` of src/memory.rs.
+
+#![tactic(auto)]
+
 ghost use Rattle.std.specs.Prelude.{◌≡◌, ◌<◌, ◌≤◌};
 ghost use Rattle.limits.specs.Limits.{ENTRIES};
 ghost use Rattle.pool.specs.Stack.{top, popped, pushed};

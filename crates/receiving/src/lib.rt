@@ -1,5 +1,8 @@
 // The calls on the receive ring, for an account that is known to be sound: they make every test but that one. Beside each stands its verdict.
 // The calls of crate `calls` make the soundness test first, and then call these. Ported from IxgbeDevice of src/ixgbe.rs.
+
+#![tactic(auto)]
+
 ghost use Rattle.std.specs.Prelude.{◌≡◌, true, ◌<◌};
 ghost use Rattle.limits.specs.Limits.{SLOTS};
 ghost use Rattle.rules.specs.Handles.{handles};

@@ -1,4 +1,7 @@
 // Which bytes mean which of the bench's records, and what the card's records do to the rings. Document 01, "The bench program".
+
+#![tactic(auto)]
+
 ghost use Rattle.std.specs.Prelude.{◌≡◌, ◌≤◌, ◌<◌, length};
 ghost use Rattle.limits.specs.Limits.{SENDS, SLOTS, RING-BYTES};
 ghost use Rattle.words.specs.Slots.{InRing};

@@ -1,5 +1,8 @@
 // Makes the public calls that the records on standard input describe, and prints their answers, with as much packet memory as a usual stack has
 // room for. docs/REPLAY.md has the format.
+
+#![tactic(auto)]
+
 use replay_calls::KEPT;
 
 // The bytes of packet memory.

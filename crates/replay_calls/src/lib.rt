@@ -1,5 +1,8 @@
 // The calls on account, rings and packet memory that the records of `replay` describe (docs/REPLAY.md, kinds 1 to 35), and what is set and shown
 // of them. Each record makes its call and prints its line.
+
+#![tactic(auto)]
+
 mod fields;
 mod kept;
 mod loans;

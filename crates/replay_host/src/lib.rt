@@ -1,5 +1,8 @@
 // The test program for a host in another language, which lends it as much packet memory as it has; tools/replay_host.c is one.
 
+#![tactic(auto)]
+
+
 // How many bytes are kept before packet memory.
 #[unsafe(no_mangle)]
 pub extern "C" fn yaltumbir_replay_kept() -> usize {

@@ -1,4 +1,7 @@
 // What the lines of `replay` are made of: words, numbers after a space, and the parts of answers that several calls have in common.
+
+#![tactic(auto)]
+
 use libc::STDOUT_FILENO;
 use limits::SENDS;
 use pool::Handle;

@@ -1,4 +1,7 @@
 // The records of `replay`: which numbers the body of a kind holds, and where the values begin that it sets. docs/REPLAY.md has the table of kinds.
+
+#![tactic(auto)]
+
 ghost use Rattle.std.specs.Prelude.{◌+◌, ◌≤◌, length};
 
 // The most numbers of a body.

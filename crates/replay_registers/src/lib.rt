@@ -1,4 +1,7 @@
 // The register calls that the records of `replay` describe (docs/REPLAY.md, kinds 40 to 75): each makes its call and prints its line.
+
+#![tactic(auto)]
+
 mod rates;
 mod run_time;
 mod start_up;

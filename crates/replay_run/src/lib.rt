@@ -1,4 +1,7 @@
 // Reads the records of standard input and plays them, each with its line, to the first that is not good. docs/REPLAY.md has the format.
+
+#![tactic(auto)]
+
 ghost use Rattle.std.specs.Prelude.{◌≤◌, length};
 
 use libc::STDIN_FILENO;

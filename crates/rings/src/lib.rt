@@ -1,5 +1,8 @@
 // The loops over rings, on lent arrays and numbers: start, receive, cleaning, send. A host that keeps the arrays itself calls them without
 // a copy. Ported from start_rx_queue, rx_batch, clean_tx_queue and tx_batch of src/ixgbe.rs.
+
+#![tactic(auto)]
+
 ghost use Rattle.std.specs.Prelude.{◌≡◌, ◌+◌, ◌-◌, ◌<◌, get_or, set};
 ghost use Rattle.limits.specs.Limits.{ENTRIES, SLOTS};
 ghost use Rattle.words.specs.Slots.{InRing};

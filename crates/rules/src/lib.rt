@@ -1,4 +1,7 @@
 // The record types of the account and of every answer. specs/ has document 01's rules over them; there are no functions here.
+
+#![tactic(auto)]
+
 use limits::{ENTRIES, SENDS, SLOTS};
 use pool::{FreeStack, Handle};
 

@@ -1,5 +1,8 @@
 // The send call, for an account that is known to be sound: it makes every test but that one. Beside it stands its verdict. The call of crate
 // `calls` makes the soundness test first, and then calls this. Ported from tx_batch of src/ixgbe.rs.
+
+#![tactic(auto)]
+
 ghost use Rattle.std.specs.Prelude.{◌≡◌, true, get_or, length, ◌<◌, min};
 ghost use Rattle.limits.specs.Limits.{SENDS, SLOTS, BATCH};
 ghost use Rattle.rules.specs.Handles.{handles};

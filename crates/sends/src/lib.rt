@@ -1,5 +1,8 @@
 // The loops over send rings, on lent arrays and numbers: cleaning, the test of a list of handles, and sending. A host that keeps the
 // arrays itself calls them without a copy. Ported from clean_tx_queue and tx_batch of src/ixgbe.rs.
+
+#![tactic(auto)]
+
 ghost use Rattle.std.specs.Prelude.{◌≡◌, ℕ, ◌+◌, ◌<◌, ◌≤◌, length, get_or};
 ghost use Rattle.limits.specs.Limits.{ENTRIES, SENDS};
 ghost use Rattle.words.specs.Slots.{InRing};

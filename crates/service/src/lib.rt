@@ -2,6 +2,9 @@
 // a short list of actions. The host asks for one after the other, with how many it has made and the value last read, until the answer is Done.
 // Ported from get_mac_addr, set_mac_addr, read_stats, reset_stats, get_link_speed, set_promisc, enable_interrupt and disable_interrupt of
 // src/ixgbe.rs.
+
+#![tactic(auto)]
+
 ghost use Rattle.std.specs.Prelude.{◌≡◌, ◌+◌, ◌*◌, ◌^◌, ◌<◌, get_or};
 ghost use Rattle.card.specs.Registers.{address, ROWS, EIMS, IVAR};
 ghost use Rattle.card.specs.Masks.{changed, queue_bit, vector_clear, vector_set};

@@ -1,4 +1,7 @@
 // The test that an account is sound, which every public call makes first. Its scratch is one byte for each id.
+
+#![tactic(auto)]
+
 ghost use Rattle.std.specs.Prelude.{◌≡◌, ◌+◌, ◌≤◌, ◌<◌, length, take, set};
 ghost use Rattle.limits.specs.Limits.{ENTRIES, SENDS, SLOTS};
 ghost use Rattle.laws.specs.Test.{pick};

@@ -1,5 +1,8 @@
 // The start-up: the set-up call, and a machine that makes one action of the sequence at each step.
 // The machine knows items, and nothing of the card; specs/Machine.antt is what a step does.
+
+#![tactic(auto)]
+
 ghost use Rattle.std.specs.Prelude.{◌≡◌, ◌*◌, ◌≤◌, ◌<◌, length};
 ghost use Rattle.limits.specs.Limits.{TRIES};
 ghost use Rattle.plan.specs.Sequence.{RINGS, Ranged};

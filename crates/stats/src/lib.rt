@@ -1,5 +1,8 @@
 // The caller's record of statistics: packets and bytes, received and sent. `service::read_counters` has the order in which the card's counters are
 // read. Ported from read_stats of src/ixgbe.rs.
+
+#![tactic(auto)]
+
 ghost use Rattle.std.specs.Prelude.{◌≡◌};
 ghost use Rattle.stats.specs.Sums.{byte_count, with_more};
 

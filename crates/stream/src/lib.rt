@@ -1,6 +1,9 @@
 // What the bench program's records answer and leave on the bench's state. The account is known to be sound, so no record pays a test of it. What
 // their bytes mean, and what the card's records do to the rings, stands in `records`; what each hand has, the last handle of each id, and what the
 // records that need no ring answer stand in `tally`. Document 01, "The bench program".
+
+#![tactic(auto)]
+
 ghost use Rattle.std.specs.Prelude.{◌≡◌, true, ◌+◌, ◌*◌, ◌≤◌, ◌<◌, length, take};
 ghost use Rattle.limits.specs.Limits.{ENTRIES, SLOTS};
 ghost use Rattle.rules.specs.Numbers.{number as number_of, verdict_of};

@@ -1,5 +1,8 @@
 // What the bench's lines say: what each hand has, the last handle of each id, and what the records that need no ring answer. The account of a take
 // or a release is known to be sound, so neither pays a test of it. Document 01, "The bench program".
+
+#![tactic(auto)]
+
 ghost use Rattle.std.specs.Prelude.{◌≡◌, true, ◌*◌, ◌≤◌, length};
 ghost use Rattle.limits.specs.Limits.{ENTRIES, SENDS, SLOTS};
 ghost use Rattle.laws.specs.Test.{pick};

@@ -1,6 +1,9 @@
 // The bench's turns: what the records of some bytes do, one after the other, on the state that the records before them have left, and the lines that
 // they give. What bytes mean, and which record may come when, stands in `records`; what each record answers and leaves in `tally` and `stream`;
 // how a line is written in `lines`. Document 01, "The bench program".
+
+#![tactic(auto)]
+
 ghost use Rattle.std.specs.Prelude.{◌≡◌, true, false, ◌-◌, ◌≤◌, length};
 ghost use Rattle.rules.specs.Handles.{handles};
 ghost use Rattle.rules.specs.Sound.{sound};

@@ -1,6 +1,9 @@
 // The interrupt window: whether a queue is polled or waits for interrupts, by the rates that it had of late. The host counts its receive
 // calls with `tick`, looks at the clock when that says so, and hands the rate to `rated`.
 // Ported from rx_batch of src/ixgbe.rs (the counter) and check_interrupt of src/interrupts.rs.
+
+#![tactic(auto)]
+
 ghost use Rattle.std.specs.Prelude.{◌≡◌, true, ◌*◌, ◌^◌, ◌≤◌, ◌<◌, take};
 ghost use Rattle.limits.specs.Limits.{MOST-RATES};
 ghost use Rattle.window.specs.Window.{total, in_range, sound, Sound, opened, new_call, tick_call, is_full, slid, with_rate, rated_call};

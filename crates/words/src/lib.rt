@@ -1,4 +1,7 @@
 // Little-endian words at a place of a byte slice, and the words of a ring's slots. Ported from the descriptor accesses of src/ixgbe.rs.
+
+#![tactic(auto)]
+
 ghost use Rattle.std.specs.Prelude.{◌≡◌, ◌+◌, ◌*◌, ◌^◌, ◌≤◌, length};
 ghost use Rattle.limits.specs.Limits.{SMALLEST-SIZE, SIZE-DOUBLINGS};
 ghost use Rattle.words.specs.Le.{le_at, put_le, address_plus};

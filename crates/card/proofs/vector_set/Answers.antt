@@ -1,0 +1,6 @@
+-- `card::vector_set` meets its contract: the shift's own. Assumes nothing.
+use borrow.Author.Rules.{rules}
+use Rattle.card.proofs.vector_set.Goals as goal
+
+pub returns : goal.returns
+returns c = rw c.vector_shift.ensures
