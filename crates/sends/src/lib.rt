@@ -128,10 +128,10 @@ fn mark_good(
     let n = ids.len();
     for i in 0..n {
         let handle = lists::at(pools, ids, offsets, lengths, i);
-        let id = handle.id as usize;
         if !is_good(pool, entries, size, hands, handle) {
             return i;
         }
+        let id = handle.id as usize;
         hands[id] = mark;
     }
     n
