@@ -1,5 +1,4 @@
 -- `startup::advance` meets its contract: the three ways of a step. Assumes nothing.
-use borrow.Author.Rules.{rules}
 use mathlib.Core.Path.{sym, ap, ◌∙◌}
 use native.Mathlib.Omega.{arith}
 use Rattle.startup.specs.Machine.{over}

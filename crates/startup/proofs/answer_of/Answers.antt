@@ -1,5 +1,4 @@
 -- `startup::answer_of` meets its contract: by the test. Assumes nothing.
-use borrow.Author.Rules.{rules}
 use mathlib.Core.Path.{sym, ◌∙◌}
 use Rattle.startup.specs.Machine.{answer}
 use Rattle.startup.proofs.answer_of.Goals as goal

@@ -1,9 +1,6 @@
 -- `startup::copy` meets its contract: the addresses so far are copied, and the rest is zeros. Assumes nothing.
 use mathlib.Core.Path.{◌≡◌, refl}
-use Prim.Native.Nat.{◌-◌, ◌≤◌}
 use native.Mathlib.Omega.{arith}
-use borrow.Author.Rules.{rules}
-use Rattle.startup.specs.SetUp.{copied}
 use Rattle.startup.proofs.Copied.{copied_more}
 use Rattle.startup.proofs.copy.Goals as goal
 

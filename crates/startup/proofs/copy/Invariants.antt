@@ -1,10 +1,7 @@
 -- `startup::copy` meets its contract: the addresses so far are copied, and the rest is zeros. Assumes nothing.
-use mathlib.Core.Path.{◌≡◌, refl}
+use mathlib.Core.Path.{◌≡◌}
 use Prim.Native.Nat.{◌-◌, ◌≤◌}
-use native.Mathlib.Omega.{arith}
-use borrow.Author.Rules.{rules}
 use Rattle.startup.specs.SetUp.{copied}
-use Rattle.startup.proofs.Copied.{copied_more}
 use Rattle.startup.proofs.copy.Given as goal
 
 abbrev pub invariant-loop-i : goal.invariant-loop-i

@@ -1,5 +1,4 @@
 -- `startup::cost_of` meets its contract: each variant by its name. Assumes nothing.
-use borrow.Author.Rules.{rules}
 use Rattle.startup.proofs.cost_of.Goals as goal
 
 pub returns-in-WaitSet : goal.returns-in-WaitSet

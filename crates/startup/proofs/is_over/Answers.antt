@@ -1,5 +1,4 @@
 -- `startup::is_over` meets its contract: each variant by its name. Assumes nothing.
-use borrow.Author.Rules.{rules}
 use mathlib.Core.Path.{ap, ◌∙◌}
 use borrow.Author.Tests.{le-leb, lt-leb}
 use Rattle.startup.specs.Machine.{seen}

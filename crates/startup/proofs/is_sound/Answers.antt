@@ -4,7 +4,7 @@ use mathlib.Core.Path.{◌≡◌, sym, ◌∙◌}
 use mathlib.Core.Bool.{true}
 use native.Mathlib.Omega.{arith}
 use lib.ListN.{length}
-use borrow.Author.Tests.{not-true, not-false, le-leb, lt-leb}
+use borrow.Author.Tests.{le-leb, lt-leb}
 use Rattle.plan.specs.Sequence.{sequence}
 use Rattle.startup.specs.Machine.{setup_ok, sound_of}
 use Rattle.startup.proofs.Sound.{setup-range, setup-ranged}

@@ -1,7 +1,6 @@
 -- `startup::kept_ok` meets its contract: the tests in order. Assumes nothing.
-use borrow.Author.Rules.{rules}
 use mathlib.Core.Path.{sym, ◌∙◌}
-use borrow.Author.Tests.{eq-eqb, ne_eqb, not-true, not-false}
+use borrow.Author.Tests.{eq-eqb, ne_eqb}
 use Rattle.startup.specs.Machine.{kept_ok}
 use Rattle.startup.proofs.kept_ok.Goals as goal
 

@@ -1,5 +1,4 @@
 -- `startup::kind_ok` meets its contract: by the kind. Assumes nothing.
-use borrow.Author.Rules.{rules}
 use borrow.Author.Tests.{eq-eqb, ne_eqb}
 use Rattle.startup.proofs.kind_ok.Goals as goal
 

@@ -1,5 +1,4 @@
 -- `startup::link_up` meets its contract: by the speed. Assumes nothing.
-use borrow.Author.Rules.{rules}
 use Rattle.startup.specs.Machine.{link_up}
 use Rattle.startup.proofs.link_up.Goals as goal
 

@@ -1,5 +1,4 @@
 -- `startup::next_action` meets its contract: each variant by its name. Assumes nothing.
-use borrow.Author.Rules.{rules}
 use Rattle.startup.proofs.next_action.Goals as goal
 
 pub returns-in-Write : goal.returns-in-Write

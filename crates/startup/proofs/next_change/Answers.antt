@@ -1,5 +1,4 @@
 -- `startup::next_change` meets its contract: by the test. Assumes nothing.
-use borrow.Author.Rules.{rules}
 use borrow.Author.Tests.{eq-eqb, ne_eqb}
 use Rattle.startup.specs.Machine.{changing}
 use Rattle.startup.proofs.next_change.Goals as goal

@@ -1,6 +1,5 @@
 -- `startup::next_wait` meets its contract: the tests in order. Assumes nothing.
 use mathlib.Core.Path.{refl}
-use borrow.Author.Rules.{rules}
 use borrow.Author.Tests.{eq-eqb, ne_eqb}
 use Rattle.startup.specs.Machine.{waiting}
 use Rattle.startup.proofs.next_wait.Goals as goal

@@ -1,12 +1,8 @@
 -- `startup::passed` meets its contract: the registers so far are in the map; past the highest they all are. Assumes nothing.
-use mathlib.Core.Path.{◌≡◌, sym, ap, ◌∙◌}
+use mathlib.Core.Path.{◌≡◌}
 use Prim.Native.Nat.{◌-◌, ◌≤◌}
 use mathlib.Core.Bool.{true}
-use native.Mathlib.Omega.{arith}
-use borrow.Author.Rules.{rules}
-use borrow.Author.Tests.{not-true, not-false}
-use Rattle.startup.specs.Machine.{all_passed, reachable}
-use Rattle.startup.proofs.Map.{passed_none, passed-more, passed-fails, passed-rest}
+use Rattle.startup.specs.Machine.{all_passed}
 use Rattle.startup.proofs.passed.Given as goal
 
 abbrev pub invariant-loop-k : goal.invariant-loop-k

@@ -1,5 +1,4 @@
 -- `startup::reaches` meets its contract: by the test. Assumes nothing.
-use borrow.Author.Rules.{rules}
 use mathlib.Core.Path.{sym, ap, ◌∙◌}
 use Rattle.startup.specs.Machine.{in_map, reachable}
 use Rattle.startup.proofs.reaches.Goals as goal

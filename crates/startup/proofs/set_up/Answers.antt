@@ -1,5 +1,4 @@
 -- `startup::set_up` meets its contract: refused by its number, or the tests passed. Assumes nothing.
-use borrow.Author.Rules.{rules}
 use mathlib.Core.Path.{sym, ◌∙◌}
 use native.Mathlib.Omega.{arith}
 use borrow.Author.Tests.{eq-eqb, ne_eqb}

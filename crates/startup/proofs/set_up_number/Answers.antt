@@ -1,9 +1,8 @@
 -- `startup::set_up_number` meets its contract: the tests in order. Assumes nothing.
-use borrow.Author.Rules.{rules}
 use mathlib.Core.Path.{◌≡◌, sym, ◌∙◌}
 use mathlib.Core.Bool.{true}
 use native.Mathlib.Omega.{arith}
-use borrow.Author.Tests.{not-true, not-false, lt-ltb, le-ltb}
+use borrow.Author.Tests.{lt-ltb, le-ltb}
 use Rattle.startup.specs.Machine.{in_range}
 use Rattle.startup.specs.SetUp.{set_up_number}
 use Rattle.startup.proofs.Sound.{range-facts}

@@ -1,6 +1,5 @@
 -- `startup::settle` meets its contract: each action by its name. Assumes nothing.
 use mathlib.Core.Path.{refl}
-use borrow.Author.Rules.{rules}
 use Rattle.startup.proofs.settle.Goals as goal
 
 pub returns-in-Read : goal.returns-in-Read

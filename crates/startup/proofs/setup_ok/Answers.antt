@@ -1,7 +1,5 @@
 -- `startup::setup_ok` meets its contract: the tests in order. Assumes nothing.
-use borrow.Author.Rules.{rules}
 use mathlib.Core.Path.{sym, ◌∙◌}
-use borrow.Author.Tests.{not-true, not-false}
 use Rattle.startup.specs.Machine.{setup_ok}
 use Rattle.startup.proofs.setup_ok.Goals as goal
 
