@@ -3,6 +3,8 @@ use Prim.Native.Nat.{ℕ}
 use mathlib.Core.Path.{◌≡◌, refl, ap}
 use mathlib.Core.Bool.{true}
 use Rattle.rules.specs.declared.Account.{Account}
+use Rattle.rules.specs.declared.Kept.{Kept}
+use Rattle.rules.specs.declared.Taken.{Taken}
 use Rattle.rules.specs.declared.Verdict.{Verdict}
 use Rattle.rules.specs.declared.Verdict.TheVariants.{Done, Refused}
 use Rattle.rules.specs.Refusals.{fresh_verdict}
@@ -26,9 +28,9 @@ fresh-passed pool entries size receives sends e = by-verdict (fresh_verdict entr
 
 step-whole : {a b : Account} → Whole a → Step a b → Whole b
 step-whole w (counts r e) = w
-step-whole w (take len r e) = rw e (take-keeps w.0 w.1 len)
+step-whole w (take len r e) = rw (ap (λ (o : Taken). o.account) e) (take-keeps w.0 w.1 len)
 step-whole w (batch n len lists left r e) = rw (ap (λ (o : Batched). o.answer.account) e) (batch-keeps w.0 w.1 n len lists)
-step-whole w (release h r e) = rw e (release-keeps w.0 w.1 h)
+step-whole w (release h r e) = rw (ap (λ (o : Kept). o.account) e) (release-keeps w.0 w.1 h)
 step-whole w (truncate h len r e) = w
 step-whole w (clone h memory left r e) = rw (ap (λ (o : Cloned). o.answer.account) e) (clone-keeps w.0 w.1 h memory)
 step-whole w (view h memory part e) = w

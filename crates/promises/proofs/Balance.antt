@@ -2,7 +2,7 @@
 -- otherwise; so over a history every buffer stands once: in one of the account's lists, or with the application, given more often than
 -- given back.
 use Prim.Native.Nat.{ℕ, zero, suc, ◌+◌, ◌-◌, ◌<◌, min}
-use mathlib.Core.Path.{◌≡◌, refl, ap, ◌∙◌}
+use mathlib.Core.Path.{◌≡◌, refl, sym, ap, subst, ◌∙◌}
 use mathlib.Core.Bool.{Bool, true, false}
 use mathlib.Core.List.{List}
 use lib.ListN.{length, get_or, take, get_or-replicate}
@@ -177,18 +177,27 @@ module _ {a : Account} (full : Full a) (s : Sound a) (x : ℕ) where
 step-balance : {a b : Account} (x : ℕ) → Whole a → (t : Step a b) → held x b + gave x t ≡ held x a + gave_back x t
 unfolding gave gave_back
 step-balance x w (h.counts r e) = refl
-step-balance x w (h.take len r e) = rw e (take-balance w.0 w.1 x len ∙ omega arith)
-step-balance x w (h.batch n len lists left r e) =
-    rw (ap (λ (o : Batched). o.answer) e, ap (λ (o : Batched). o.lists) e) (batch-balance w.0 w.1 x n len lists ∙ omega arith)
-step-balance x w (h.release handle r e) = rw e (omega (arith, release-balance w.0 w.1 x handle))
+step-balance {a} x w (h.take len r e) =
+    subst (λ (o : Taken). held x o.account + once_if_done o.verdict o.handle.id x ≡ held x a + 0) (sym e) (take-balance w.0 w.1 x len ∙ omega arith)
+step-balance {a} x w (h.batch n len lists left r e) =
+    subst (λ (o : Batched). held x o.answer.account + occurs x (take o.answer.count o.lists.ids) ≡ held x a + 0) (sym e)
+    (batch-balance w.0 w.1 x n len lists ∙ omega arith)
+step-balance {a} x w (h.release handle r e) =
+    subst (λ (o : Kept). held x o.account + 0 ≡ held x a + once_if_done o.verdict handle.id x) (sym e) (omega (arith, release-balance w.0 w.1 x handle))
 step-balance x w (h.truncate handle len r e) = refl
-step-balance x w (h.clone handle memory left r e) = rw (ap (λ (o : Cloned). o.answer) e) (clone-balance w.0 w.1 x handle memory ∙ omega arith)
+step-balance {a} x w (h.clone handle memory left r e) =
+    subst (λ (o : Cloned). held x o.answer.account + once_if_done o.answer.verdict o.answer.handle.id x ≡ held x a + 0) (sym e)
+    (clone-balance w.0 w.1 x handle memory ∙ omega arith)
 step-balance x w (h.view handle memory part e) = refl
 step-balance x w (h.headroom handle asked memory part e) = refl
-step-balance x w (h.start q ring addresses left r e) = rw (ap (λ (o : AfterStart). o.answer) e) (omega (arith, start-balance w.0 w.1 x q ring addresses))
-step-balance x w (h.receive q ring addresses n lists left filled r e) =
-    rw (ap (λ (o : AfterReceive). o.answer) e, ap (λ (o : AfterReceive). o.lists) e) (receive-balance w.0 w.1 x q ring addresses n lists ∙ omega arith)
-step-balance x w (h.send q ring addresses lists left r e) = rw (ap (λ (o : AfterSend). o.answer) e) (omega (arith, send-balance w.0 w.1 x q ring addresses lists))
+step-balance {a} x w (h.start q ring addresses left r e) =
+    subst (λ (o : AfterStart). held x o.answer.account + 0 ≡ held x a + 0) (sym e) (omega (arith, start-balance w.0 w.1 x q ring addresses))
+step-balance {a} x w (h.receive q ring addresses n lists left filled r e) =
+    subst (λ (o : AfterReceive). held x o.answer.account + occurs x (take o.answer.count o.lists.ids) ≡ held x a + 0) (sym e)
+    (receive-balance w.0 w.1 x q ring addresses n lists ∙ omega arith)
+step-balance {a} x w (h.send q ring addresses lists left r e) =
+    subst (λ (o : AfterSend). held x o.answer.account + 0 ≡ held x a + occurs x (take o.answer.count lists.ids)) (sym e)
+    (omega (arith, send-balance w.0 w.1 x q ring addresses lists))
 
 -- a sum of nothing
 no-sum : (n : ℕ) (f : ℕ → ℕ) → ((q : ℕ) → q < n → f q ≡ 0) → sum_to n f ≡ 0

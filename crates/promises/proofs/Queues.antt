@@ -1,7 +1,7 @@
 -- Demand 3 for the send queues, over every history: a queue has what was sent on it less what was given back, oldest first; each giving-back
 -- is of 32 and saw the done bit of the last of them in the ring that the call was lent; no other call changes a queue.
 use Prim.Native.Nat.{ℕ, zero, suc, ◌+◌, ◌-◌, ◌%◌, ◌≤◌, ◌<◌, min}
-use mathlib.Core.Path.{◌≡◌, refl, sym, ap, ◌∙◌}
+use mathlib.Core.Path.{◌≡◌, refl, sym, ap, subst, ◌∙◌}
 use mathlib.Core.Bool.{Bool, true, false}
 use mathlib.Core.List.{List, [], ◌++◌, append-nil}
 use lib.ListN.{length, get_or, take, drop, get_or-replicate}
@@ -105,7 +105,8 @@ step-queue : {a b : Account} → Whole a → (q : ℕ) → q < a.sends → (all 
     → Queue b q (all ++ sent_by q s) (back_by q (length all) back s)
 step-queue whole q queue all back now s (quiet same nothing kept) =
     rw (nothing q, kept q (length all) back, append-nil, ap (λ o. o.1) same, ap (λ o. o.2) same, ap (λ o. o.3) same) now
-step-queue {a} whole q queue all back now s (a-send k ring addresses lists left r e) = rw (ap (λ (o : AfterSend). o.answer) e) (by-case (ℕ_discrete q k))
+step-queue {a} whole q queue all back now s (a-send k ring addresses lists left r e) =
+    subst (λ (o : AfterSend). After (eqb k q) q all back ring lists o.answer) (sym e) (by-case (ℕ_discrete q k))
   where
     by-case : Dec (q ≡ k) → After (eqb k q) q all back ring lists (send_call a k ring addresses lists).answer
     by-case (yes p) = rw (← p, eq-eqb q q refl) (own-send whole q queue all back now ring addresses lists)

@@ -1,4 +1,3 @@
 // The theorems that a customer files with a pour. There is no code here.
 
 #![tactic(auto)]
-

@@ -1,0 +1,19 @@
+-- `rings::fill` meets its contract: what is left to fill at the loop's head is what was to fill at the start. Assumes nothing.
+use Prim.Native.Nat.{◌-◌, ◌≤◌}
+use mathlib.Core.Path.{◌≡◌, sym, ap, ◌∙◌}
+use lib.ListN.{length}
+use native.Mathlib.Omega.{arith}
+use borrow.Author.Rules.{rules}
+use Rattle.limits.specs.Limits.{SLOTS, RING-BYTES}
+use Rattle.rules.specs.Receive.{Filling, fill_rule}
+use Rattle.rings.specs.Lent.{Stacked, filling_as}
+use Rattle.rings.proofs.Receives.{stacked-less, fill_step, fill_none, fill-ring}
+use Rattle.rings.proofs.fill.Given as goal
+
+abbrev pub invariant-loop-slot : goal.invariant-loop-slot
+invariant-loop-slot l =
+    (l.slot ≤ SLOTS) × (SLOTS - l.slot ≤ l.left) × Stacked l.stack l.left l.addresses × (length l.ring ≡ RING-BYTES)
+    × (fill_rule l.addresses l.slot (SLOTS - l.slot) (filling_as l.stack l.left l.hands l.slots l.ring) ≡ fill_rule l.addresses 0 SLOTS (filling_as l.stack l.depth l.initial.hands l.initial.slots l.initial.ring))
+
+abbrev pub decreases-loop-slot : goal.decreases-loop-slot
+decreases-loop-slot l = SLOTS - l.slot
