@@ -19,8 +19,9 @@ use Rattle.laws.proofs.Occurs.{length-up_from}
 use Rattle.rules.specs.Account.{waiting}
 use Rattle.rules.specs.Packets.{counts_of}
 use Rattle.rules.proofs.Sound.{queues-mean}
-use Rattle.packets.proofs.send_counts.Statement.{statement}
-use Rattle.packets.proofs.send_counts.Tie as tie
+use Rattle.packets.proofs.send_counts.Goals as goal
+use Rattle.packets.proofs.send_counts.Goals.{then-q-sends, else-q-sends}
+use Rattle.packets.proofs.send_counts.Invariants.{Counted}
 
 -- what f makes of the numbers from a first one up, at a place
 mapped_at : (f : ℕ → ℕ) (first n i : ℕ) → i < n → get_or (map f (up_from first n)) i 0 ≡ f (first + i)
@@ -29,12 +30,6 @@ mapped_at f first zero i h = absurd (omega arith)
 mapped_at f first (suc n) zero h = let e : first ≡ first + 0 = omega arith in ap f e
 mapped_at f first (suc n) (suc i) h =
     let e : first + 1 + i ≡ first + suc i = omega arith in mapped_at f (first + 1) n i (omega arith) ∙ ap f e
-
--- the queues before q have their counts, and no other place has one
-record Counted (sends : ℕ) (clean tx counts : List ℕ) (q : ℕ) : Type 0 where
-  all : length counts ≡ SENDS
-  passed : (k : ℕ) → k < min q sends → get_or counts k 0 ≡ waiting (get_or tx k 0) (get_or clean k 0)
-  others : (k : ℕ) → min q sends ≤ k → k < SENDS → get_or counts k 0 ≡ 0
 
 module _ {sends : ℕ} {clean tx counts : List ℕ} {q : ℕ} (m : Counted sends clean tx counts q) where
   count : q < sends → q < SENDS → Counted sends clean tx (set counts q (waiting (get_or tx q 0) (get_or clean q 0))) (q + 1)
@@ -65,14 +60,9 @@ module _ {sends : ℕ} {clean tx counts : List ℕ} {q : ℕ} (m : Counted sends
           by-case (yes queue) = rw (zero-add, lt-ltb k sends queue) (m.passed k (omega (arith, m.all)))
           by-case (no none) = rw (zero-add, le-ltb k sends (omega arith)) (m.others k (omega (arith, m.all)) (omega (arith, m.all)))
 
-abbrev invariant-loop : tie.invariant-loop
-invariant-loop sends clean tx counts₀ q₀ counts q = (q ≤ SENDS) × Counted sends clean tx counts q
-
-abbrev decreases-loop : tie.decreases-loop
-decreases-loop sends clean tx counts₀ q₀ counts q = SENDS - q
-
-loop-holds : tie.Need-loop-init invariant-loop decreases-loop
-loop-holds c = (
+pub loop-q-init : goal.loop-q-init
+loop-q-init c =
+    (
   omega arith,
   record {
     all = length-replicate {A = ℕ} SENDS 0;
@@ -81,60 +71,17 @@ loop-holds c = (
   },
 )
 
-mul-pending : tie.Need-overflow-mul-pending invariant-loop decreases-loop
-mul-pending c = search rules
-
-element-copy-out-pending : tie.Need-element-copy-out-pending invariant-loop decreases-loop
-element-copy-out-pending c = search rules
-
-mul-pending-2 : tie.Need-overflow-mul-pending-2 invariant-loop decreases-loop
-mul-pending-2 c = search rules
-
-element-copy-out-pending-2 : tie.Need-element-copy-out-pending-2 invariant-loop decreases-loop
-element-copy-out-pending-2 c = search rules
-
-pending-requires : tie.Need-pending-requires invariant-loop decreases-loop
-pending-requires c κs =
-    let index = queues-mean _ _ _ c.before.before.before.before.before.requires _ c.before.before.if1.true in
+pub pending-requires : goal.pending-requires
+pending-requires c =
+    let index = queues-mean _ _ _ c.requires _ c.if-q-sends.true in
     (index.tx-below, index.clean-below)
 
-mul-counts : tie.Need-overflow-mul-counts invariant-loop decreases-loop
-mul-counts c = search rules
+pub loop-q-preserved : goal.loop-q-preserved
+loop-q-preserved c =
+    elim c.if-q-sends.branch [
+      | then-q-sends w ↦ (omega arith, rw (w.counts-is, w.pending.ensures) (count c.loop-q.invariant.1 w.if-q-sends.true c.loop-q-test.true))
+      | else-q-sends w ↦ (omega arith, rw w.counts-is (skip c.loop-q.invariant.1 w.if-q-sends.false))
+    ]
 
-array-write-counts : tie.Need-array-write-counts invariant-loop decreases-loop
-array-write-counts c = search rules
-
-add-q : tie.Need-overflow-add-q invariant-loop decreases-loop
-add-q c = search rules
-
-loop-less : tie.Need-loop-smaller invariant-loop decreases-loop
-loop-less c = search rules
-
-loop-again : tie.Need-loop-preserved invariant-loop decreases-loop
-loop-again c =
-    ⊎_elim
-    (λ w. (omega arith, rw (w.4, w.3.ensures) (count c.before.before.loop.invariant.1 w.0.taken c.before.loop-test.true)))
-    (λ w. (omega arith, rw w.1 (skip c.before.before.loop.invariant.1 w.0.left)))
-    c.if1.branch
-
-returns : tie.Need-returns invariant-loop decreases-loop
-returns c = counted c.before.loop.invariant.1 c.loop-test.false
-
-pub send-counts-spec : {M : Type 1} → statement M
-send-counts-spec =
-    tie.close
-    (tie.spec
-    invariant-loop
-    decreases-loop
-    loop-holds
-    mul-pending
-    element-copy-out-pending
-    mul-pending-2
-    element-copy-out-pending-2
-    pending-requires
-    mul-counts
-    array-write-counts
-    add-q
-    loop-less
-    loop-again
-    returns)
+pub returns : goal.returns
+returns c = counted c.loop-q.invariant.1 c.loop-q-test.false
