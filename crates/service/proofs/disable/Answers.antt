@@ -1,6 +1,5 @@
 -- `service::disable` meets its contract: by the test of the queue. Assumes nothing.
 use mathlib.Core.Path.{◌∙◌}
-use borrow.Author.Rules.{rules}
 use borrow.Author.Tests.{lt-ltb, le-ltb}
 use Rattle.service.specs.Actions.{disable_call}
 use Rattle.service.proofs.disable.Goals as goal

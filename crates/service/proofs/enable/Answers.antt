@@ -1,6 +1,5 @@
 -- `service::enable` meets its contract: by the tests of the queue and the kind. Assumes nothing.
 use mathlib.Core.Path.{◌∙◌}
-use borrow.Author.Rules.{rules}
 use borrow.Author.Tests.{eq-eqb, ne_eqb, lt-ltb, le-ltb}
 use Rattle.service.specs.Actions.{enable_call}
 use Rattle.service.proofs.enable.Goals as goal

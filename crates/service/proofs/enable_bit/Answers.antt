@@ -1,5 +1,4 @@
 -- `service::enable_bit` meets its contract: the word is the one that the change ensures. Assumes nothing.
-use borrow.Author.Rules.{rules}
 use Rattle.service.proofs.enable_bit.Goals as goal
 
 pub returns : goal.returns

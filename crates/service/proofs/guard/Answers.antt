@@ -1,7 +1,6 @@
 -- `service::guard` meets its contract: each action by its name, and a register by the map's test. Assumes nothing.
 use mathlib.Core.Path.{◌≡◌, sym, ◌∙◌}
 use Rattle.startup.specs.Machine.{in_map}
-use borrow.Author.Rules.{rules}
 use Rattle.service.proofs.guard.Goals as goal
 use Rattle.service.proofs.guard.Goals.{After-in_map, After-in_map-in-Write}
 

@@ -1,5 +1,4 @@
 -- `service::mac` meets its contract: each byte is the one that `byte` ensures. Assumes nothing.
-use borrow.Author.Rules.{rules}
 use Rattle.service.specs.Mac.{mac_of}
 use Rattle.service.proofs.mac.Goals as goal
 

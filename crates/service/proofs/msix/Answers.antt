@@ -1,5 +1,4 @@
 -- `service::msix` meets its contract: the list's action at the place that a test found, and Done past them all. Assumes nothing.
-use borrow.Author.Rules.{rules}
 use Rattle.service.proofs.Lists.{past}
 use Rattle.service.proofs.msix.Goals as goal
 

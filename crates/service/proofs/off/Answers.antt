@@ -1,6 +1,5 @@
 -- `service::off` meets its contract: the list's action at the place that a test found, and Done past them all. Assumes nothing.
 use mathlib.Core.Path.{refl}
-use borrow.Author.Rules.{rules}
 use Rattle.service.proofs.Lists.{past}
 use Rattle.service.proofs.off.Goals as goal
 

@@ -1,6 +1,5 @@
 -- `service::promiscuous` meets its contract: the list's action at the place that a test found, guarded. Assumes nothing.
 use mathlib.Core.Path.{refl, ◌∙◌}
-use borrow.Author.Rules.{rules}
 use Rattle.service.specs.Actions.{promisc_call}
 use Rattle.service.proofs.Lists.{past}
 use Rattle.service.proofs.promiscuous.Goals as goal

@@ -1,6 +1,5 @@
 -- `service::read_link` meets its contract: the list's one action, guarded. Assumes nothing.
 use mathlib.Core.Path.{◌∙◌}
-use borrow.Author.Rules.{rules}
 use Rattle.service.specs.Actions.{link_call}
 use Rattle.service.proofs.Lists.{past}
 use Rattle.service.proofs.read_link.Goals as goal

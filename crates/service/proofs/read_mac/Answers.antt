@@ -1,6 +1,5 @@
 -- `service::read_mac` meets its contract: the list's action at the place that a test found, guarded. Assumes nothing.
 use mathlib.Core.Path.{◌∙◌}
-use borrow.Author.Rules.{rules}
 use Rattle.service.specs.Actions.{mac_call}
 use Rattle.service.proofs.Lists.{past}
 use Rattle.service.proofs.read_mac.Goals as goal

@@ -1,5 +1,4 @@
 -- `service::set_vector` meets its contract: the word is the one that the change ensures. Assumes nothing.
-use borrow.Author.Rules.{rules}
 use Rattle.service.proofs.set_vector.Goals as goal
 
 pub returns : goal.returns

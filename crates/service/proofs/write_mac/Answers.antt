@@ -1,6 +1,5 @@
 -- `service::write_mac` meets its contract: the list's action at the place that a test found, guarded. Assumes nothing.
 use mathlib.Core.Path.{refl, ◌∙◌}
-use borrow.Author.Rules.{rules}
 use Rattle.service.specs.Actions.{set_mac_call}
 use Rattle.service.proofs.Lists.{past}
 use Rattle.service.proofs.write_mac.Goals as goal
