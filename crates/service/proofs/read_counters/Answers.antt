@@ -3,7 +3,6 @@ use Prim.Native.Nat.{ℕ, ◌<◌}
 use mathlib.Core.Path.{◌≡◌, refl, ◌∙◌}
 use mathlib.Core.Bool.{true}
 use mathlib.Core.List.{List}
-use borrow.Author.Rules.{rules}
 use borrow.Author.Tests.{ltb-true}
 use lib.Dec.{ltb}
 use lib.ListN.{get_or}
@@ -14,8 +13,7 @@ use Rattle.parts.proofs.Lists.{at_map}
 use Rattle.startup.specs.declared.Action.TheVariants.{Read, Done}
 use Rattle.service.specs.Actions.{plain, counters, counter_actions, counters_call}
 use Rattle.service.proofs.Lists.{past}
-use Rattle.service.proofs.read_counters.Statement.{statement}
-use Rattle.service.proofs.read_counters.Tie as tie
+use Rattle.service.proofs.read_counters.Goals as goal
 
 -- a row of a table all of whose rows are low
 low-row : (rows : List ℕ) (made : ℕ) → every 6 (λ k. ltb (get_or rows k 0) ROWS) ≡ true → made < 6 → get_or rows made 0 < ROWS
@@ -24,27 +22,14 @@ low-row rows made all h = ltb-true _ _ (every-at (λ k. ltb (get_or rows k 0) RO
 row_read : (made : ℕ) → made < 6 → get_or counter_actions made Done ≡ Read (plain (get_or counters made 0))
 row_read made h = at_map (λ row. Read (plain row)) counters made 0 Done h
 
-mul-read : tie.Need-overflow-mul-read
-mul-read c = search rules
-
-array-read-read : tie.Need-array-read-read
-array-read-read c = search rules
-
-read-requires : tie.Need-read-requires
+pub read-requires : goal.read-requires
 unfolding every
-read-requires c κs = search low-row
+read-requires c = search low-row
 
-guard-requires : tie.Need-guard-requires
-guard-requires c κs = search rules
-
-returns : tie.Need-returns
+pub returns-then-made-lt6 : goal.returns-then-made-lt6
 unfolding counters_call
-returns c = c.guard.ensures ∙ rw (row_read _ c.before.before.if1.true, c.before.read.ensures) refl
+returns-then-made-lt6 c = c.guard.ensures ∙ rw (row_read _ c.if-made-lt6.true, c.read.ensures) refl
 
-returns-2 : tie.Need-returns-2
+pub returns : goal.returns
 unfolding counters_call
-returns-2 c = search past
-
-pub read-counters-spec : {M : Type 1} → statement M
-read-counters-spec =
-    tie.close (tie.spec mul-read array-read-read read-requires guard-requires returns returns-2)
+returns c = search past
