@@ -2,15 +2,10 @@
 use Prim.Native.Nat.{min}
 use mathlib.Core.Path.{◌≡◌, sym, ap, ◌∙◌}
 use mathlib.Core.Bool.{true, false}
-use lib.Dec.{ltb}
 use borrow.Author.Tests.{not-true, not-false, lt-ltb, le-ltb}
 use Rattle.limits.specs.Limits.{SLOTS}
-use Rattle.rules.specs.declared.Refusal.TheVariants.{NoQueue, NotNow}
-use Rattle.rules.specs.declared.Verdict.TheVariants.{Done}
-use Rattle.rules.specs.Numbers.{unless}
 use Rattle.rules.specs.Handles.{handles, has_room}
 use Rattle.rules.specs.Refusals.{rings_fit, receive_verdict}
-use borrow.Author.Rules.{rules}
 use Rattle.receiving.proofs.receive_verdict.Goals as goal
 use Rattle.receiving.proofs.receive_verdict.Goals.{After-has_room, Else-not-has_room, Else-not-rings_fit}
 

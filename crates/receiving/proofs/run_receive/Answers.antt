@@ -2,7 +2,6 @@
 use mathlib.Core.Path.{ap}
 use Rattle.rules.specs.Receive.{Stopping, receive_end}
 use Rattle.rules.proofs.Receive.{receive-place}
-use borrow.Author.Rules.{rules}
 use Rattle.receiving.proofs.run_receive.Goals as goal
 
 pub tail_after-tail-requires : goal.tail_after-tail-requires

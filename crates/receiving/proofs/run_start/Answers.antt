@@ -1,7 +1,6 @@
 -- `receiving::run_start` meets its contract: the account is made of what the loop left. Assumes nothing.
 use mathlib.Core.Path.{ap}
 use Rattle.rules.specs.Receive.{start_end}
-use borrow.Author.Rules.{rules}
 use Rattle.receiving.proofs.run_start.Goals as goal
 
 pub returns : goal.returns

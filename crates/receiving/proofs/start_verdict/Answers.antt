@@ -2,7 +2,6 @@
 use mathlib.Core.Path.{sym, ◌∙◌}
 use borrow.Author.Tests.{lt-ltb, le-ltb, lt-leb, le-leb}
 use Rattle.rules.specs.Refusals.{start_verdict}
-use borrow.Author.Rules.{rules}
 use Rattle.receiving.proofs.start_verdict.Goals as goal
 
 pub returns-then-not-rings_fit : goal.returns-then-not-rings_fit

@@ -3,7 +3,6 @@ use mathlib.Core.Path.{◌≡◌, refl}
 use mathlib.Core.Bool.{true, false}
 use lib.Dec.{eqb}
 use borrow.Author.Tests.{eq-eqb, ne_eqb}
-use borrow.Author.Rules.{rules}
 use Rattle.receiving.proofs.tail_after.Goals as goal
 use Rattle.receiving.proofs.tail_after.Goals.{Else-count-eq0, Then-count-eq0}
 

@@ -1,7 +1,6 @@
 -- `sending::run_send` meets its contract: the answer is made of what cleaning and sending left. Assumes nothing.
 use native.Mathlib.Omega.{arith}
 use Rattle.sending.proofs.Laws.{clean-place, writable-less, run-outcome}
-use borrow.Author.Rules.{rules}
 use Rattle.sending.proofs.run_send.Goals as goal
 
 -- ---- places: the entry, where it is known how many packets fit, and the entry from the end

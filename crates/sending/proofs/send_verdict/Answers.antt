@@ -8,7 +8,6 @@ use Rattle.rules.specs.Refusals.{rings_fit, send_verdict}
 use Rattle.rules.proofs.Facts.{bounds}
 use Rattle.rules.proofs.Verdicts.{room-means}
 use Rattle.sends.proofs.Marks.{run-verdict}
-use borrow.Author.Rules.{rules}
 use Rattle.sending.proofs.send_verdict.Goals as goal
 use Rattle.sending.proofs.send_verdict.Goals.{Else-not-has_room, Else-not-rings_fit}
 

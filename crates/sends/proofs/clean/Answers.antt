@@ -2,11 +2,9 @@
 use Prim.Native.Nat.{◌≤◌}
 use mathlib.Core.Path.{sym, ap, ◌∙◌}
 use native.Mathlib.Omega.{arith}
-use borrow.Author.Rules.{rules}
 use Rattle.rules.specs.Account.{waiting}
 use Rattle.rules.specs.Send.{Cleaning}
-use Rattle.sends.specs.Lent.{cleaning_as}
-use Rattle.sends.proofs.Laws.{Along, along-start, along-few, along-unsent, along-givable, along-less, along-batch}
+use Rattle.sends.proofs.Laws.{along-start, along-few, along-unsent, along-givable, along-less, along-batch}
 use Rattle.sends.proofs.clean.Goals as goal
 use Rattle.sends.proofs.clean.Goals.{Else-pending-batch}
 

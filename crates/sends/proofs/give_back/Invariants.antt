@@ -1,16 +1,10 @@
 -- `sends::give_back` meets its contract: what is left to give back at the loop's head is what was to give back at the start, and as many as were
 -- given are on the stack and passed in the ring. Assumes nothing.
-use Prim.Native.Nat.{◌+◌, ◌-◌, ◌%◌, ◌≤◌, ◌<◌}
-use mathlib.Core.Path.{◌≡◌, sym, ◌∙◌}
-use lib.ListN.{get_or}
-use native.Mathlib.Omega.{arith}
-use native.Mathlib.Nat.{sub-zero}
-use borrow.Author.Rules.{rules}
-use Rattle.limits.specs.Limits.{ENTRIES, SLOTS}
-use Rattle.rules.specs.Account.{send_place}
-use Rattle.rules.specs.Send.{Cleaning, given_back, give_back}
+use Prim.Native.Nat.{◌+◌, ◌-◌, ◌%◌, ◌≤◌}
+use mathlib.Core.Path.{◌≡◌}
+use Rattle.limits.specs.Limits.{SLOTS}
+use Rattle.rules.specs.Send.{give_back}
 use Rattle.sends.specs.Lent.{cleaning_as}
-use Rattle.sends.proofs.Laws.{give-step, give-none}
 use Rattle.sends.proofs.give_back.Given as goal
 
 abbrev pub invariant-loop : goal.invariant-loop

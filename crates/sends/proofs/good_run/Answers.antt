@@ -1,7 +1,6 @@
 -- `sends::good_run` meets its contract: the marks of a run are taken away again. Assumes nothing.
 use mathlib.Core.Path.{◌∙◌}
 use native.Mathlib.Omega.{arith}
-use borrow.Author.Rules.{rules}
 use Rattle.pool.specs.Hands.{HAND-SEND}
 use Rattle.sends.proofs.Marks.{run-known, run-unmarked}
 use Rattle.sends.proofs.good_run.Goals as goal

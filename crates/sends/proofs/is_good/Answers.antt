@@ -1,5 +1,4 @@
 -- `sends::is_good` meets its contract: each answer by the tests that led there. Assumes nothing.
-use borrow.Author.Rules.{rules}
 use borrow.Author.Tests.{eq-eqb, ne_eqb, lt-ltb, le-ltb}
 use Rattle.sends.specs.Lent.{good_in}
 use Rattle.sends.proofs.is_good.Goals as goal
@@ -37,6 +36,6 @@ returns c =
       eq-eqb _ _ c.if-hands-id-ne-HAND_OUT.false,
     )
     (elim c.if-offset-ne0.branch [
-        then-offset-ne0+else-offset-ne-HEADROOM w ↦ rw (ne_eqb _ _ w.if-offset-ne0.true, eq-eqb _ _ w.if-offset-ne-HEADROOM.false)
+      | then-offset-ne0+else-offset-ne-HEADROOM w ↦ rw (ne_eqb _ _ w.if-offset-ne0.true, eq-eqb _ _ w.if-offset-ne-HEADROOM.false)
       | else-offset-ne0 w ↦ rw (eq-eqb _ _ w.if-offset-ne0.false)
     ])

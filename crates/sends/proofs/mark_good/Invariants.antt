@@ -1,14 +1,9 @@
 -- `sends::mark_good` meets its contract. The invariant is `Marking`, and each way out of a turn one law of `Marks`: a handle is good by the marks
 -- just where it can be sent. Assumes nothing.
 use Prim.Native.Nat.{◌-◌}
-use mathlib.Core.Path.{◌≡◌, sym, ap, ◌∙◌}
 use lib.ListN.{length}
-use native.Mathlib.Omega.{arith}
-use borrow.Author.Rules.{rules}
-use Rattle.pool.specs.declared.Handle.{Handle}
-use Rattle.rules.specs.Handles.{handles, handle_at}
-use Rattle.sends.specs.Lent.{good_in}
-use Rattle.sends.proofs.Marks.{good-known, marked-none, Marking, marking-stopped, marking-all, marking-more}
+use Rattle.rules.specs.Handles.{handles}
+use Rattle.sends.proofs.Marks.{Marking}
 use Rattle.sends.proofs.mark_good.Given as goal
 
 abbrev pub invariant-loop-i : goal.invariant-loop-i

@@ -1,12 +1,8 @@
 -- `sends::send` meets its contract: what is left to send at the loop's head is what was to send at the start. Assumes nothing.
-use Prim.Native.Nat.{◌-◌, ◌≤◌, ◌<◌}
 use mathlib.Core.Path.{◌≡◌, sym, ap, ◌∙◌}
-use lib.ListN.{length}
 use native.Mathlib.Omega.{arith}
 use native.Mathlib.Nat.{sub-zero}
 use borrow.Author.Rules.{rules}
-use Rattle.limits.specs.Limits.{SLOTS, RING-BYTES}
-use Rattle.rules.specs.Handles.{handles}
 use Rattle.rules.specs.Send.{Sending, send_rule}
 use Rattle.sends.specs.Lent.{sending_as}
 use Rattle.sends.proofs.Laws.{send-step, send-none}

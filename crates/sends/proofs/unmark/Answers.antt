@@ -1,25 +1,16 @@
 -- `sends::unmark` meets its contract: what is left to take away at the loop's head is what was to take away at the start. Assumes nothing.
-use Prim.Native.Nat.{◌-◌, ◌≤◌, ◌<◌}
+use Prim.Native.Nat.{◌-◌}
 use mathlib.Core.Path.{◌≡◌, sym, ◌∙◌}
-use lib.ListN.{get_or}
 use native.Mathlib.Omega.{arith}
-use borrow.Author.Rules.{rules}
-use Rattle.limits.specs.Limits.{ENTRIES}
-use Rattle.sends.specs.Lent.{unmarked_in}
 use Rattle.sends.proofs.Marks.{unmarked-less, unmarked-none}
 use Rattle.sends.proofs.unmark.Goals as goal
-use Rattle.sends.proofs.unmark.Goals.{After-shared_slice_known-1}
 
 -- the id at the place is an id
-known : (c : After-shared_slice_known-1)
-    → get_or c.args.ids.now (c.loop-left.left - 1) 0 < ENTRIES
-known c = c.requires.1 (c.loop-left.left - 1) (omega arith)
-
 pub overflow_cast-id : goal.overflow_cast-id
-overflow_cast-id c = omega (arith, known (goal.at.overflow_cast-id c).After-shared_slice_known-1)
+overflow_cast-id c = omega (arith, c.requires.1 (c.loop-left.left - 1) (omega arith))
 
 pub bounds-hands-id : goal.bounds-hands-id
-bounds-hands-id c = known (goal.at.bounds-hands-id c).After-shared_slice_known-1
+bounds-hands-id c = c.requires.1 (c.loop-left.left - 1) (omega arith)
 
 pub loop-left-preserved : goal.loop-left-preserved
 loop-left-preserved c = (omega arith, sym (unmarked-less c.loop-left.hands _ _ c.loop-left-test.true) ∙ c.loop-left.invariant.1)

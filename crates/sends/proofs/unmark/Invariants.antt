@@ -1,12 +1,7 @@
 -- `sends::unmark` meets its contract: what is left to take away at the loop's head is what was to take away at the start. Assumes nothing.
-use Prim.Native.Nat.{◌-◌, ◌≤◌, ◌<◌}
-use mathlib.Core.Path.{◌≡◌, sym, ◌∙◌}
-use lib.ListN.{get_or}
-use native.Mathlib.Omega.{arith}
-use borrow.Author.Rules.{rules}
-use Rattle.limits.specs.Limits.{ENTRIES}
+use Prim.Native.Nat.{◌≤◌}
+use mathlib.Core.Path.{◌≡◌}
 use Rattle.sends.specs.Lent.{unmarked_in}
-use Rattle.sends.proofs.Marks.{unmarked-less, unmarked-none}
 use Rattle.sends.proofs.unmark.Given as goal
 
 abbrev pub invariant-loop-left : goal.invariant-loop-left
