@@ -1,12 +1,9 @@
 -- `rings::fill` meets its contract: what is left to fill at the loop's head is what was to fill at the start. Assumes nothing.
-use Prim.Native.Nat.{◌-◌, ◌≤◌}
-use mathlib.Core.Path.{◌≡◌, sym, ap, ◌∙◌}
+use mathlib.Core.Path.{sym, ap, ◌∙◌}
 use lib.ListN.{length}
 use native.Mathlib.Omega.{arith}
-use borrow.Author.Rules.{rules}
-use Rattle.limits.specs.Limits.{SLOTS, RING-BYTES}
 use Rattle.rules.specs.Receive.{Filling, fill_rule}
-use Rattle.rings.specs.Lent.{Stacked, filling_as}
+use Rattle.rings.specs.Lent.{filling_as}
 use Rattle.rings.proofs.Receives.{stacked-less, fill_step, fill_none, fill-ring}
 use Rattle.rings.proofs.fill.Goals as goal
 use Rattle.rings.proofs.fill.Goals.{At-loop-slot}
@@ -15,8 +12,7 @@ abbrev here : (a : At-loop-slot) → Filling
 here a = filling_as a.args.stack.now a.loop-slot.left a.loop-slot.hands a.loop-slot.slots a.loop-slot.ring
 
 pub loop-slot-preserved : goal.loop-slot-preserved
-loop-slot-preserved c =
-    (
+loop-slot-preserved c = (
   omega arith,
   omega arith,
   stacked-less c.loop-slot.invariant.2,

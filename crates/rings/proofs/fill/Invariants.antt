@@ -1,13 +1,10 @@
 -- `rings::fill` meets its contract: what is left to fill at the loop's head is what was to fill at the start. Assumes nothing.
 use Prim.Native.Nat.{◌-◌, ◌≤◌}
-use mathlib.Core.Path.{◌≡◌, sym, ap, ◌∙◌}
+use mathlib.Core.Path.{◌≡◌}
 use lib.ListN.{length}
-use native.Mathlib.Omega.{arith}
-use borrow.Author.Rules.{rules}
 use Rattle.limits.specs.Limits.{SLOTS, RING-BYTES}
-use Rattle.rules.specs.Receive.{Filling, fill_rule}
+use Rattle.rules.specs.Receive.{fill_rule}
 use Rattle.rings.specs.Lent.{Stacked, filling_as}
-use Rattle.rings.proofs.Receives.{stacked-less, fill_step, fill_none, fill-ring}
 use Rattle.rings.proofs.fill.Given as goal
 
 abbrev pub invariant-loop-slot : goal.invariant-loop-slot

@@ -2,7 +2,6 @@
 use native.Mathlib.Omega.{arith}
 use Rattle.rules.specs.Receive.{filled}
 use Rattle.rings.proofs.Receives.{top-known}
-use borrow.Author.Rules.{rules}
 use Rattle.rings.proofs.fill_slot.Goals as goal
 
 pub overflow_cast-id : goal.overflow_cast-id

@@ -1,6 +1,5 @@
 -- `rings::look` meets its contract: the slot's two words are judged. Assumes nothing.
 use Rattle.rules.specs.Receive.{found}
-use borrow.Author.Rules.{rules}
 use Rattle.rings.proofs.look.Goals as goal
 
 pub returns : goal.returns

@@ -1,13 +1,8 @@
 -- `rings::receive` meets its contract. The invariant is `Along`, and each way out of a turn one law of `Receives`. Assumes nothing.
-use Prim.Native.Nat.{◌-◌, ◌<◌}
-use mathlib.Core.Path.{◌≡◌, refl, sym, ◌∙◌}
-use native.Mathlib.Omega.{arith}
-use borrow.Author.Rules.{rules}
-use Rattle.rules.specs.declared.Found.TheVariants.{Frame}
+use Prim.Native.Nat.{◌-◌}
 use Rattle.rules.specs.Handles.{handles}
-use Rattle.rules.specs.Receive.{Receiving, next}
 use Rattle.rings.specs.Lent.{receiving_as}
-use Rattle.rings.proofs.Receives.{Along, along-start, along-asked, along-stopped, along-frame, along-room, some-free}
+use Rattle.rings.proofs.Receives.{Along}
 use Rattle.rings.proofs.receive.Given as goal
 
 abbrev pub invariant-loop-count : goal.invariant-loop-count

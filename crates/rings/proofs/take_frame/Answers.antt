@@ -4,7 +4,6 @@ use lib.ListN.{length, get_or}
 use native.Mathlib.Omega.{arith}
 use Rattle.limits.specs.Limits.{ENTRIES}
 use Rattle.rings.proofs.Receives.{top-known, frame-taken}
-use borrow.Author.Rules.{rules}
 use Rattle.rings.proofs.take_frame.Goals as goal
 use Rattle.rings.proofs.take_frame.Goals.{Start}
 
