@@ -15,21 +15,8 @@ use Rattle.rules.proofs.Verdicts.{not_done, verdict-holds}
 use Rattle.rules.proofs.Calls.{fresh-whole}
 use Rattle.calls.proofs.Parts.{not-zero}
 use Rattle.tally.specs.Tally.{POOL, pending_of, tally_of, fresh_answer}
-use borrow.Author.Rules.{rules}
-use Rattle.tally.proofs.fresh.Statement.{statement}
-use Rattle.tally.proofs.fresh.Tie as tie
-
-fresh-requires : tie.Need-fresh-requires
-fresh-requires c κs = search rules
-
-enum-known-verdict : tie.Need-enum-known-verdict
-enum-known-verdict c = search rules
-
-refusal-number-requires : tie.Need-refusal-number-requires
-refusal-number-requires c κs = search rules
-
-enum_told : tie.Need-enum-told
-enum_told c = search rules
+use Rattle.tally.proofs.fresh.Goals as goal
+use Rattle.tally.proofs.fresh.Goals.{In-Done}
 
 module _ (entries size sends : ℕ) where
   done-sound : (fresh_call POOL entries size 1 sends).verdict ≡ Done → sound (fresh_call POOL entries size 1 sends).account ≡ true
@@ -51,35 +38,25 @@ nothing : tally_of no_account ≡ record { free = 0; receive = 0; send = 0; out 
 unfolding tally_of opened pending_of sum_to
 nothing = refl
 
-started-sound : (c : tie.After-enum-told) → sound c.before.before.before.fresh.result.account ≡ true
-started-sound c = rw c.before.before.before.fresh.ensures (done-sound _ _ _ (rw c.before.before.before.fresh.ensures at c.enum_told.given.1))
+started-sound : (c : In-Done) → sound c.fresh-kept.result.account ≡ true
+started-sound c = rw c.fresh-kept.ensures (done-sound _ _ _ (rw c.fresh-kept.ensures at c.in-Done.is))
 
-answered-requires : tie.Need-answered-requires
-answered-requires c κs = started-sound c
+pub answered-requires : goal.answered-requires
+answered-requires c = started-sound (goal.at.answered-requires c).In-Done
 
-returns : tie.Need-returns
+pub returns-in-Refused : goal.returns-in-Refused
 unfolding fresh_answer
-returns c = (
-  let told = rw c.before.before.before.before.before.fresh.ensures at c.before.before.verdict.given.1 in
-      rw (c.refusal-number.ensures, c.before.before.before.before.before.fresh.ensures, told, refused_none _ _ _ _ told, nothing),
-  λ e. absurd (not-zero c.before.before.verdict.given.0.0 (sym c.refusal-number.ensures ∙ e)),
-)
+returns-in-Refused c =
+    let told = rw c.fresh-kept.ensures at c.in-Refused.is in
+    record {
+      answer = rw (c.refusal_number.ensures, c.fresh-kept.ensures, told, refused_none _ _ _ _ told, nothing);
+      keeps = λ e. absurd (not-zero c.in-Refused.why (sym c.refusal_number.ensures ∙ e));
+    }
 
-returns-2 : tie.Need-returns-2
+pub returns-in-Done : goal.returns-in-Done
 unfolding fresh_answer
-returns-2 c = (
-  rw (c.answered.ensures, ← c.before.before.before.before.fresh.ensures, c.before.enum_told.given.1),
-  λ e. rw c.answered.ensures (started-sound c.before),
-)
-
-pub fresh-spec : {M : Type 1} → statement M
-fresh-spec =
-    tie.close
-    (tie.spec
-    fresh-requires
-    enum-known-verdict
-    refusal-number-requires
-    enum_told
-    answered-requires
-    returns
-    returns-2)
+returns-in-Done c =
+    record {
+      answer = rw (c.answered.ensures, ← c.fresh-kept.ensures, c.in-Done.is);
+      keeps = λ e. rw c.answered.ensures (started-sound (goal.at.returns-in-Done c).In-Done);
+    }
