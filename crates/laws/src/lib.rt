@@ -1,4 +1,3 @@
 // Laws on lists, occurrences and rings. There is no code here.
 
 #![tactic(auto)]
-

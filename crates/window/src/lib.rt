@@ -17,7 +17,7 @@ pub const OUT_OF_RANGE: u32 = 9;
 
 // R, the threshold and the interval in nanoseconds as they were set; whether interrupts are on; the receive calls since the clock was last
 // looked at; the sum of the rates, their count, and the rates themselves, the oldest first.
-#[derive(Drop)]
+#[derive(Clone, Copy)]
 pub struct Window {
     pub range: usize,
     pub threshold: u64,
