@@ -146,9 +146,9 @@ def bench_steady(given):
     return True
 
 
-def wrong_programs(_):
+def wrong_programs(given):
     """Prints what the refusals of the wrong programs show."""
-    return compare.wrong_programs.tell(ROOT)
+    return compare.wrong_programs.tell(ROOT, given.said)
 
 
 # ---- the command
@@ -160,6 +160,7 @@ ARGUMENTS = ("arguments", {"nargs": "*", "help": "of the program, after --"})
 SCENES = ("--scenes", {"action": "store_true", "help": "compare the stored streams with those of their scenes too"})
 COUNT, SIZE = ("count", {"type": int, "help": "how many"}), ("size", {"type": int, "help": "records of a random stream"})
 SEED = ("seed", {"type": int, "nargs": "?", "default": 1000, "help": "the first seed"})
+SAID = ("said", {"type": Path, "help": "a file with what `rt ci` printed"})
 LENT = {"type": int, "help": "the packet memory that a host lends, which is told it as its argument"}
 
 COMMANDS = (
@@ -171,7 +172,7 @@ COMMANDS = (
     ("compare bench", compare_bench, "compare bench with the model on worked, random and cut streams", [PROGRAM, COUNT, SEED]),
     ("rust rings", rust_rings, "compare replay with the Rust's pool and rings", [SOURCE, PROGRAM, COUNT, SEED, ("memory", LENT | {"nargs": "?"})]),
     ("rust start-ups", rust_start_ups, "compare replay with the Rust's start-up, recorded and random", [SOURCE, PROGRAM, COUNT, SEED]),
-    ("wrong-programs", wrong_programs, "print the fact that each must-fail edit of the last `rt ci` or `rt must-fail` shows", []),
+    ("wrong-programs", wrong_programs, "print what the refusal of each must-fail edit shows, by the lines of a run of `rt ci`", [SAID]),
     ("bench steady", bench_steady, "print records of steady traffic for bench", [COUNT]),
 )
 

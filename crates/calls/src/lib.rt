@@ -4,6 +4,7 @@
 #![tactic(auto)]
 
 ghost use Rattle.std.specs.Prelude.{◌≡◌};
+ghost use denote.MutBor.{as_bor};
 ghost use Rattle.rules.specs.Numbers.{refusal_number, number as number_of};
 ghost use Rattle.rules.specs.Handles.{handles};
 ghost use Rattle.rules.specs.Refusals.{size_given, view_verdict, headroom_verdict};
@@ -190,7 +191,7 @@ pub fn headroom<'a>(
     asked: usize,
     memory: &'a mut [u8],
 ) -> &'a mut [u8]
-    ensures { lent result ≡ headroom_call account handle asked (lent memory.entry) }
+    ensures { lent (as_bor result) ≡ headroom_call account handle asked (lent (as_bor memory.entry)) }
 {
     if !sound::is_sound(account) {
         return &mut memory[0..0];

@@ -5,6 +5,7 @@
 
 ghost use Rattle.std.specs.Prelude.{◌≡◌, true, ◌+◌, ◌*◌, ◌^◌, ◌≤◌, ◌<◌, min, max, length};
 ghost use Rattle.std.proofs.lemmas.List.Edits.{sets};
+ghost use denote.MutBor.{as_bor};
 ghost use Rattle.rules.specs.Sound.{sound};
 ghost use Rattle.rules.specs.Refusals.{view_verdict, clone_verdict, headroom_verdict};
 ghost use Rattle.rules.specs.Packets.{place_of, part, cloned_as, clone_call, lent, view_call, headroom_call};
@@ -77,7 +78,7 @@ pub fn headroom<'a>(
     memory: &'a mut [u8],
 ) -> &'a mut [u8]
     requires { sound account ≡ true }
-    ensures { lent result ≡ headroom_call account handle asked (lent memory.entry) }
+    ensures { lent (as_bor result) ≡ headroom_call account handle asked (lent (as_bor memory.entry)) }
 {
     let verdict = headroom_verdict(account, handle, asked, memory.len());
     match verdict {

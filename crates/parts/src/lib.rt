@@ -14,7 +14,7 @@ const RING_BYTES: u32 = (limits::SLOTS * limits::SLOT_BYTES) as u32;
 const LAST_SLOT: u32 = (limits::SLOTS - 1) as u32;
 
 // A word of a template: as it stands, or made from the set-up and the queue.
-#[derive(Drop)]
+#[derive(Clone, Copy)]
 pub enum Value {
     Is(u32),
     FirstOnly(u32),
@@ -30,7 +30,7 @@ pub enum Value {
 }
 
 // An item before its queue is known: registers are rows of the card's table.
-#[derive(Drop)]
+#[derive(Clone, Copy)]
 pub enum Template {
     Write(usize, Value),
     Read(usize),
@@ -42,7 +42,7 @@ pub enum Template {
 }
 
 // How often a part is made.
-#[derive(Drop)]
+#[derive(Clone, Copy)]
 pub enum Times {
     Once,
     Buffer,
@@ -53,7 +53,7 @@ pub enum Times {
 }
 
 // A part of the sequence: `len` templates, made for one queue after the other.
-#[derive(Drop)]
+#[derive(Clone, Copy)]
 pub struct Part {
     pub times: Times,
     pub len: usize,

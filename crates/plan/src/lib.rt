@@ -26,7 +26,7 @@ pub const BUFFERS: usize = 8;
 pub const HIGHEST_PLACE: usize = 11;
 
 // The interrupts that are asked for: none, or a kind by its number.
-#[derive(Drop)]
+#[derive(Clone, Copy)]
 pub enum Interrupts {
     Off,
     Kind(u64),
@@ -34,7 +34,7 @@ pub enum Interrupts {
 
 // The numbers of a set-up: the map's length, the queues each way, the reads of a wait, the interrupts and their throttle rate, and a ring's
 // address for each queue, receive first.
-#[derive(Drop)]
+#[derive(Clone, Copy)]
 pub struct Setup {
     pub map: u64,
     pub receives: usize,
@@ -46,7 +46,7 @@ pub struct Setup {
 }
 
 // An item of the sequence: registers are addresses.
-#[derive(Drop)]
+#[derive(Clone, Copy)]
 pub enum Item {
     End,
     Write(u32, u32),

@@ -17,7 +17,7 @@ pub const HAND_OUT: u8 = 2;
 pub const HAND_SEND: u8 = 3;
 
 // A packet: the pool that it is of, its buffer's id, and where in the buffer its bytes are.
-#[derive(Drop)]
+#[derive(Clone, Copy)]
 pub struct Handle {
     pub pool: u32,
     pub id: u16,
@@ -26,14 +26,14 @@ pub struct Handle {
 }
 
 // The ids of the buffers that nobody has, in an array beside their count. The top is the last.
-#[derive(Drop)]
+#[derive(Clone, Copy)]
 pub struct FreeStack {
     pub ids: [u16; limits::ENTRIES],
     pub depth: usize,
 }
 
 // An id that left the stack, and the stack without it.
-#[derive(Drop)]
+#[derive(Clone, Copy)]
 pub struct Popped {
     pub id: u16,
     pub stack: FreeStack,

@@ -19,7 +19,7 @@ pub const SEND_BYTES: usize = SENDS * RING_BYTES;
 pub const MOST: usize = 32764;
 
 // A record. The ids of a send stand in its bytes.
-#[derive(Drop)]
+#[derive(Clone, Copy)]
 pub enum Record {
     // Entries, entry size, send queues.
     Fresh(usize, usize, usize),

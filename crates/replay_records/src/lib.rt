@@ -12,7 +12,7 @@ const NONE: u64 = u64::MAX;
 
 // What a body says: its numbers, where the values begin that it sets, how many bytes each has and how many they are. It is not good if its kind
 // is unknown or has other bytes.
-#[derive(Drop)]
+#[derive(Clone, Copy)]
 pub struct Body {
     pub numbers: [u64; MOST],
     pub first: usize,

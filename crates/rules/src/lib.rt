@@ -6,7 +6,7 @@ use limits::{ENTRIES, SENDS, SLOTS};
 use pool::{FreeStack, Handle};
 
 // Why a call was refused. specs/Numbers.antt gives document 01's number of each.
-#[derive(Drop)]
+#[derive(Clone, Copy)]
 pub enum Refusal {
     // The account is not sound.
     Unsound,
@@ -27,14 +27,14 @@ pub enum Refusal {
 }
 
 // What a call says of itself.
-#[derive(Drop)]
+#[derive(Clone, Copy)]
 pub enum Verdict {
     Done,
     Refused(Refusal),
 }
 
 // Why a receive that was not refused came to its end.
-#[derive(Drop)]
+#[derive(Clone, Copy)]
 pub enum Stop {
     Asked,
     NotDone,
@@ -44,28 +44,28 @@ pub enum Stop {
 }
 
 // What a receive says of itself.
-#[derive(Drop)]
+#[derive(Clone, Copy)]
 pub enum Ended {
     Stopped(Stop),
     Refused(Refusal),
 }
 
 // What stands at a receive slot: a reason to stop, or a frame with its length.
-#[derive(Drop)]
+#[derive(Clone, Copy)]
 pub enum Found {
     Nothing(Stop),
     Frame(u16),
 }
 
 // The tail that the host writes to the card after a call, if any.
-#[derive(Drop)]
+#[derive(Clone, Copy)]
 pub enum Tail {
     Unwritten,
     Written(usize),
 }
 
 // The account: where each buffer of a pool is.
-#[derive(Drop)]
+#[derive(Clone, Copy)]
 pub struct Account {
     pub pool: u32,
     pub entries: usize,
@@ -86,35 +86,35 @@ pub struct Account {
 }
 
 // Fresh, and release.
-#[derive(Drop)]
+#[derive(Clone, Copy)]
 pub struct Kept {
     pub verdict: Verdict,
     pub account: Account,
 }
 
 // One packet, and a clone.
-#[derive(Drop)]
+#[derive(Clone, Copy)]
 pub struct Taken {
     pub verdict: Verdict,
     pub handle: Handle,
     pub account: Account,
 }
 
-#[derive(Drop)]
+#[derive(Clone, Copy)]
 pub struct Batch {
     pub verdict: Verdict,
     pub count: usize,
     pub account: Account,
 }
 
-#[derive(Drop)]
+#[derive(Clone, Copy)]
 pub struct Truncated {
     pub verdict: Verdict,
     pub handle: Handle,
 }
 
 // How many buffers each hand has.
-#[derive(Drop)]
+#[derive(Clone, Copy)]
 pub struct Counts {
     pub verdict: Verdict,
     pub free: usize,
@@ -123,14 +123,14 @@ pub struct Counts {
     pub out: usize,
 }
 
-#[derive(Drop)]
+#[derive(Clone, Copy)]
 pub struct Started {
     pub verdict: Verdict,
     pub tail: Tail,
     pub account: Account,
 }
 
-#[derive(Drop)]
+#[derive(Clone, Copy)]
 pub struct Received {
     pub ended: Ended,
     pub count: usize,
@@ -138,7 +138,7 @@ pub struct Received {
     pub account: Account,
 }
 
-#[derive(Drop)]
+#[derive(Clone, Copy)]
 pub struct Sent {
     pub verdict: Verdict,
     pub count: usize,

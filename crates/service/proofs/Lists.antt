@@ -1,9 +1,8 @@
 -- Past the last of a list's actions comes Done, which needs no register. Assumes nothing.
-use Prim.Native.Nat.{ℕ, ◌-◌, ◌≤◌}
+use Prim.Native.Nat.{ℕ, ◌-◌, ◌≤◌, zero-le}
 use mathlib.Core.Path.{◌≡◌, sym}
 use mathlib.Core.List.{List}
 use native.Mathlib.Omega.{arith}
-use borrow.Author.Rules.{zero≤}
 use lib.ListN.{length, get_or, get_or-eq_default}
 use Rattle.startup.specs.declared.Action.{Action}
 use Rattle.startup.specs.declared.Action.TheVariants.{Done}
@@ -20,4 +19,4 @@ module _ (actions : List Action) (made : ℕ) (h : length actions ≤ made) wher
 pub not-this : (n made : ℕ) → n - 1 ≤ made → (made ≡ n - 1 → ⊥) → n ≤ made
 not-this n made l e = omega arith
 
-pub ruleset past = (none_left, next-done, zero≤, not-this)
+pub ruleset past = (none_left, next-done, zero-le, not-this)

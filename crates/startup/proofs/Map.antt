@@ -19,7 +19,7 @@ use Rattle.plan.specs.Sequence.{Ranged, filled}
 use Rattle.plan.proofs.Laws.{masked, of-every}
 use Rattle.plan.proofs.Highest.{HIGHEST-PLACE, at-highest}
 use Rattle.plan.specs.declared.Setup.{Setup}
-use Rattle.plan.specs.declared.Item.TheVariants.{End, WaitSet}
+use Rattle.plan.specs.declared.Item.TheVariants.{End}
 use Rattle.startup.specs.Machine.{in_map, reachable, item_at, all_passed}
 
 -- ---- the test

@@ -34,7 +34,7 @@ pub const LINK_ACTIONS: usize = 201;
 pub const SIGNALLED: usize = 16;
 
 // What the host does next.
-#[derive(Drop)]
+#[derive(Clone, Copy)]
 pub enum Action {
     Read(u32),
     Write(u32, u32),
@@ -44,7 +44,7 @@ pub enum Action {
 }
 
 // A start-up: its set-up, the item that it is at, how many of the item's actions were made, and the number of a kept refusal.
-#[derive(Drop)]
+#[derive(Clone, Copy)]
 pub struct State {
     pub setup: Setup,
     pub place: usize,
@@ -53,14 +53,14 @@ pub struct State {
 }
 
 // What a step answers: the action, and the state to give the next step.
-#[derive(Drop)]
+#[derive(Clone, Copy)]
 pub struct Stepped {
     pub action: Action,
     pub state: State,
 }
 
 // What a set-up answers: 0 and the state to give the first step, or a refusal's number and a state that is not sound.
-#[derive(Drop)]
+#[derive(Clone, Copy)]
 pub struct Begun {
     pub number: u32,
     pub state: State,

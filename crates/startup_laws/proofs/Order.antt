@@ -22,7 +22,7 @@ use Rattle.plan.specs.declared.Setup.{Setup}
 use Rattle.plan.specs.declared.Interrupts.{Interrupts}
 use Rattle.plan.specs.declared.Interrupts.TheVariants.{Off, Kind}
 use Rattle.plan.specs.declared.Item.{Item}
-use Rattle.plan.specs.declared.Item.TheVariants.{End, Write, Read, Change, WaitClear, Pause, Link}
+use Rattle.plan.specs.declared.Item.TheVariants.{End, Write, Read, Change, WaitClear, Link}
 use Rattle.startup.specs.declared.Action.TheVariants as action
 use Rattle.startup.specs.declared.State.{State}
 use Rattle.startup.specs.Machine.{SIGNALLED, LINK-READS, LINK-ACTIONS, link_up, over, answer, reachable, kind_ok, item_at, here, state, stepped, Sound}

@@ -18,7 +18,7 @@ use rules::{Account, Verdict};
 pub const POOL: u32 = 0;
 
 // What each hand has.
-#[derive(Drop)]
+#[derive(Clone, Copy)]
 pub struct Tally {
     pub free: usize,
     pub receive: usize,
@@ -27,7 +27,7 @@ pub struct Tally {
 }
 
 // What a record answers: document 01's number, its value, what each hand has then, and the account.
-#[derive(Drop)]
+#[derive(Clone, Copy)]
 pub struct Answer {
     pub number: u64,
     pub value: usize,

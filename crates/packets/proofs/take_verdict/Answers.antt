@@ -1,0 +1,21 @@
+-- `packets::take_verdict` meets its contract: each answer by the tests that led there. Assumes nothing.
+use native.Mathlib.Omega.{arith}
+use borrow.Author.Tests.{lt-leb, le-leb, lt-ltb, le-ltb}
+use Rattle.rules.specs.Refusals.{take_verdict}
+use Rattle.rules.proofs.Facts.{bounds}
+use Rattle.packets.proofs.take_verdict.Goals as goal
+
+pub overflow_sub-account : goal.overflow_sub-account
+overflow_sub-account c = omega (arith, bounds c.args.account c.requires)
+
+pub returns-then-account-len : goal.returns-then-account-len
+unfolding take_verdict
+returns-then-account-len c = rw (c.requires, lt-leb _ _ c.if-account-len.true)
+
+pub returns-then-free-eq0 : goal.returns-then-free-eq0
+unfolding take_verdict
+returns-then-free-eq0 c = rw (c.requires, le-leb _ _ c.if-account-len.false, le-ltb 0 c.args.account.free.depth (omega (arith, c.if-free-eq0.true)))
+
+pub returns : goal.returns
+unfolding take_verdict
+returns c = rw (c.requires, le-leb _ _ c.if-account-len.false, lt-ltb 0 c.args.account.free.depth (omega (arith, c.if-free-eq0.false)))

@@ -1,0 +1,88 @@
+-- `stream::send` meets its contract: the gathered handles are sent on the part of the rings that is the queue's. Assumes nothing.
+use Prim.Native.Nat.{ℕ, ◌+◌, ◌-◌, ◌*◌, ◌<◌}
+use mathlib.Core.Path.{◌≡◌, sym, ap}
+use lib.ListN.{take, drop}
+use lib.Seq.{length-take-le}
+use native.Mathlib.Omega.{arith}
+use borrow.Author.Tests.{lt-ltb, le-ltb}
+use Rattle.limits.specs.Limits.{SENDS, RING-BYTES}
+use Rattle.rules.specs.Handles.{Handles, handles, Room}
+use Rattle.rules.specs.Sound.{Full}
+use Rattle.rules.specs.Send.{AfterSend, sent_as, send_call}
+use Rattle.rules.proofs.Sound.{sound-means}
+use Rattle.stream.specs.Bench.{send_answer}
+use Rattle.stream.proofs.Keeps.{send-stays}
+use Rattle.stream.proofs.Memory.{room-kept, firsts}
+use borrow.Author.Rules.{rules}
+use Rattle.stream.proofs.send.Goals as goal
+use Rattle.stream.proofs.send.Goals.{After-gather, After-send-sent}
+
+-- ---- no such queue
+
+pub returns-then-account-queue : goal.returns-then-account-queue
+unfolding send_answer
+returns-then-account-queue c = rw (c.answered.ensures, c.refusal_number.ensures, le-ltb _ _ c.if-account-queue.true)
+
+-- ---- the handles are gathered: the queue is one of the rings, and the lists have room for as many handles as before
+
+module _ (c : After-gather) where
+  -- the account's arrays have their lengths
+  full : Full c.args.account
+  full = record { stack = search rules; hands = search rules; slots = search rules; sent = search rules; clean = search rules; tx = search rules }
+
+  known : c.args.queue < SENDS
+  known = omega (arith, c.if-account-queue.false, (sound-means _ c.requires.0).numbers.few-sends)
+
+  abbrev lists : Handles
+  lists = let last = c.gather.new in handles last.pools last.ids last.froms last.sizes
+
+  room : Room c.args.count lists
+  room = let kept = c.gather.auto in room-kept c.requires.6 (omega arith) kept.pools kept.ids kept.froms kept.sizes
+
+-- ---- the queue's ring is lent: the part of the rings that begins at `queue * RING-BYTES`
+
+pub overflow_mul-from : goal.overflow_mul-from
+overflow_mul-from c = omega (arith, known (goal.at.overflow_mul-from c).After-gather)
+
+pub overflow_add-from : goal.overflow_add-from
+overflow_add-from c = omega (arith, known (goal.at.overflow_add-from c).After-gather)
+
+pub slice_bounds-send-end : goal.slice_bounds-send-end
+slice_bounds-send-end c = omega (arith, known (goal.at.slice_bounds-send-end c).After-gather, c.requires.1)
+
+-- from a place to the one a ring further on lies a ring
+ring_long : (from : ℕ) → from + RING-BYTES - from ≡ RING-BYTES
+ring_long from = omega arith
+
+-- ---- the first handles of the lists are lent
+
+pub slice_bounds-send-end-3 : goal.slice_bounds-send-end-3
+slice_bounds-send-end-3 c = sym (length-take-le _ _ (room (goal.at.slice_bounds-send-end-3 c).After-gather).pools)
+
+pub slice_bounds-send-end-5 : goal.slice_bounds-send-end-5
+slice_bounds-send-end-5 c = sym (length-take-le _ _ (room (goal.at.slice_bounds-send-end-5 c).After-gather).ids)
+
+pub slice_bounds-send-end-7 : goal.slice_bounds-send-end-7
+slice_bounds-send-end-7 c = sym (length-take-le _ _ (room (goal.at.slice_bounds-send-end-7 c).After-gather).offsets)
+
+pub slice_bounds-send-end-9 : goal.slice_bounds-send-end-9
+slice_bounds-send-end-9 c = sym (length-take-le _ _ (room (goal.at.slice_bounds-send-end-9 c).After-gather).lengths)
+
+-- ---- they are sent on the part that was lent, and that is the queue's own ring: a send on another ring is refused here
+
+own-ring : (c : After-send-sent) →
+    let a = c.args in let last = c.gather.new in
+    sent_as c.send-sent.result c.send-sent.new.ring
+    ≡ send_call a.account a.queue (take RING-BYTES (drop (a.queue * RING-BYTES) a.tx.now)) a.addresses.now
+    (firsts a.count (handles last.pools last.ids last.froms last.sizes))
+own-ring c = rw ring_long at c.send-sent.ensures
+
+pub answered-requires-2 : goal.answered-requires-2
+answered-requires-2 c =
+    let g = (goal.at.answered-requires-2 c).After-gather in
+    rw (ap (λ (o : AfterSend). o.answer.account) (own-ring (goal.at.answered-requires-2 c).After-send-sent)) (send-stays (full g) c.requires.0 _ _ _ _)
+
+pub returns : goal.returns
+unfolding send_answer
+returns c =
+    rw (c.answered-2.ensures, c.number.ensures, lt-ltb _ _ c.if-account-queue.false, ring_long, ← c.gather.ensures, ← own-ring (goal.at.returns c).After-send-sent)
