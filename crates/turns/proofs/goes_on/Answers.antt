@@ -1,4 +1,4 @@
--- `turns::goes_on-holds` meets its contract: the tests in order. Assumes nothing.
+-- `turns::goes_on` meets its contract: the tests in order. Assumes nothing.
 use Prim.Native.Nat.{◌-◌, ◌^◌}
 use native.Mathlib.Omega.{arith}
 use borrow.Author.Rules.{rules}
