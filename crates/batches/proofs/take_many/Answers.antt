@@ -1,16 +1,12 @@
 -- `batches::take_many` meets its contract: what is left to take from here is what was to take at the start, and each turn takes one. The lists keep
 -- their lengths, so they keep their room. Assumes nothing.
-use Prim.Native.Nat.{ℕ, suc, ◌+◌, ◌-◌, ◌≤◌, ◌<◌}
+use Prim.Native.Nat.{ℕ, suc, ◌+◌, ◌-◌, ◌<◌}
 use mathlib.Core.Path.{◌≡◌, refl, sym, ◌∙◌}
-use lib.ListN.{length, get_or, length-set}
+use lib.ListN.{length-set}
 use native.Mathlib.Omega.{arith}
-use borrow.Author.Rules.{rules}
-use Rattle.limits.specs.Limits.{ENTRIES}
-use Rattle.rules.specs.Handles.{Handles, handles}
-use Rattle.rules.specs.Packets.{Taking, one_more, take_many, taking}
+use Rattle.rules.specs.Packets.{Taking, one_more, take_many}
 use Rattle.rules.proofs.Packets.{many-none, many_more}
 use Rattle.batches.proofs.take_many.Goals as goal
-use Rattle.batches.proofs.take_many.Invariants.{Same}
 
 -- one turn of what is left
 turn : (pool len most count : ℕ) (w all : Taking) → count < most → 0 < w.free.depth → take_many pool len (most - count) w ≡ all

@@ -1,13 +1,9 @@
--- `batches::take_many` meets its contract: what is left to take from here is what was to take at the start, and each turn takes one. The lists keep
-use Prim.Native.Nat.{ℕ, suc, ◌+◌, ◌-◌, ◌≤◌, ◌<◌}
-use mathlib.Core.Path.{◌≡◌, refl, sym, ◌∙◌}
-use lib.ListN.{length, get_or, length-set}
-use native.Mathlib.Omega.{arith}
-use borrow.Author.Rules.{rules}
-use Rattle.limits.specs.Limits.{ENTRIES}
+-- The loop of `batches::take_many`: what is left to take from here is what was to take at the start, and the lists keep their lengths.
+use Prim.Native.Nat.{◌-◌, ◌≤◌}
+use mathlib.Core.Path.{◌≡◌}
+use lib.ListN.{length}
 use Rattle.rules.specs.Handles.{Handles, handles}
-use Rattle.rules.specs.Packets.{Taking, one_more, take_many, taking}
-use Rattle.rules.proofs.Packets.{many-none, many_more}
+use Rattle.rules.specs.Packets.{take_many, taking}
 use Rattle.batches.proofs.take_many.Given as goal
 
 -- the lists are as long as they were

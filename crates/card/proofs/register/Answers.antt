@@ -1,5 +1,4 @@
 -- `card::register` meets its contract: each way by the tests that led there. Assumes nothing.
-use borrow.Author.Rules.{rules}
 use mathlib.Core.Path.{◌∙◌}
 use borrow.Author.Tests.{eq-eqb, ne_eqb, lt-ltb, le-ltb}
 use Rattle.card.specs.Registers.{address}

@@ -1,5 +1,4 @@
 -- `card::vector_clear` meets its contract: the shift's own. Assumes nothing.
-use borrow.Author.Rules.{rules}
 use Rattle.card.proofs.vector_clear.Goals as goal
 
 pub returns : goal.returns

@@ -1,6 +1,5 @@
 -- `lists::rings_fit` meets its contract: each answer by the test that led there. Assumes nothing.
 use borrow.Author.Tests.{eq-eqb, ne_eqb}
-use borrow.Author.Rules.{rules}
 use Rattle.lists.proofs.rings_fit.Goals as goal
 
 pub returns-then-ring : goal.returns-then-ring

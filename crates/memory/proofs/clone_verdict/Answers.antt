@@ -1,7 +1,6 @@
 -- `memory::clone_verdict` meets its contract: the view's verdict, and then that of a take. Assumes nothing.
 use mathlib.Core.Path.{sym, ◌∙◌}
 use Rattle.memory.proofs.Laws.{clone-by-view}
-use borrow.Author.Rules.{rules}
 use Rattle.memory.proofs.clone_verdict.Goals as goal
 
 pub returns-in-Refused : goal.returns-in-Refused

@@ -1,11 +1,9 @@
 -- `memory::copy` meets its contract. The invariant: the bytes passed are copied. The byte read next is still the one that was there, for the
 -- places do not reach into each other. Assumes nothing.
-use Prim.Native.Nat.{◌-◌, ◌≤◌}
 use mathlib.Core.Path.{◌≡◌, refl, ap, ◌∙◌}
 use native.Mathlib.Omega.{arith}
 use lib.ListN.{length}
-use lib.Seq.{sets, length-sets}
-use Rattle.rules.specs.Packets.{part}
+use lib.Seq.{length-sets}
 use Rattle.memory.proofs.Laws.{copied_more}
 use Rattle.memory.proofs.copy.Goals as goal
 use Rattle.memory.proofs.copy.Goals.{At-loop-i}

@@ -1,11 +1,8 @@
--- `memory::copy` meets its contract. The invariant: the bytes passed are copied. The byte read next is still the one that was there, for the
+-- The loop of `memory::copy`: the bytes passed are copied.
 use Prim.Native.Nat.{◌-◌, ◌≤◌}
-use mathlib.Core.Path.{◌≡◌, refl, ap, ◌∙◌}
-use native.Mathlib.Omega.{arith}
-use lib.ListN.{length}
-use lib.Seq.{sets, length-sets}
+use mathlib.Core.Path.{◌≡◌}
+use lib.Seq.{sets}
 use Rattle.rules.specs.Packets.{part}
-use Rattle.memory.proofs.Laws.{copied_more}
 use Rattle.memory.proofs.copy.Given as goal
 
 abbrev pub invariant-loop-i : goal.invariant-loop-i

@@ -9,7 +9,6 @@ use Rattle.rules.specs.declared.Verdict.TheVariants.{Done}
 use Rattle.rules.specs.Refusals.{headroom_verdict}
 use Rattle.rules.specs.Packets.{headroom_call}
 use Rattle.memory.proofs.Laws.{Inside, headroom-inside}
-use borrow.Author.Rules.{rules}
 use Rattle.memory.proofs.headroom.Goals as goal
 use Rattle.memory.proofs.headroom.Goals.{In-Done}
 

@@ -7,7 +7,6 @@ use Rattle.limits.specs.Limits.{HEADROOM}
 use Rattle.rules.specs.declared.Verdict.TheVariants.{Done}
 use Rattle.rules.specs.Refusals.{view_verdict}
 use Rattle.memory.proofs.Laws.{headroom-by-view}
-use borrow.Author.Rules.{rules}
 use Rattle.memory.proofs.headroom_verdict.Goals as goal
 use Rattle.memory.proofs.headroom_verdict.Goals.{Else-asked-gt-HEADROOM, Else-offset-asked, In-Done, Then-asked-gt-HEADROOM, Then-offset-asked}
 

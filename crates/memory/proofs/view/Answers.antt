@@ -7,7 +7,6 @@ use Rattle.rules.specs.Packets.{view_call}
 use Rattle.rules.specs.Refusals.{view_verdict}
 use Rattle.rules.specs.declared.Verdict.TheVariants.{Done}
 use Rattle.memory.proofs.Laws.{Inside, view-inside}
-use borrow.Author.Rules.{rules}
 use Rattle.memory.proofs.view.Goals as goal
 use Rattle.memory.proofs.view.Goals.{In-Done}
 

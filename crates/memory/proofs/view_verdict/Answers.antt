@@ -4,7 +4,6 @@ use native.Mathlib.Omega.{arith}
 use borrow.Author.Tests.{eq-eqb, ne_eqb}
 use Rattle.rules.specs.Refusals.{handle_verdict, view_verdict}
 use Rattle.rules.proofs.Facts.{bounds}
-use borrow.Author.Rules.{rules}
 use Rattle.memory.proofs.view_verdict.Goals as goal
 
 pub overflow_mul-account : goal.overflow_mul-account

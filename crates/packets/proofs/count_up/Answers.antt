@@ -1,7 +1,7 @@
 -- `packets::count_up` meets its contract: the places passed hold the numbers from 0 up, and the others zero. Assumes nothing.
-use Prim.Native.Nat.{ℕ, ◌+◌, ◌-◌, ◌≤◌, ◌<◌}
+use Prim.Native.Nat.{ℕ, ◌+◌, ◌<◌}
 use mathlib.Core.Path.{◌≡◌, sym, ◌∙◌}
-use lib.ListN.{length, get_or, set, length-set, length-replicate}
+use lib.ListN.{get_or, set, length-set, length-replicate}
 use lib.Seq.{get_or-set_same, get_or-set_other, ext_get_or}
 use lib.Arith.{lt_of_le-ne}
 use native.Mathlib.Decide.{ℕ_discrete}

@@ -1,7 +1,6 @@
 -- `packets::handle_verdict` meets its contract: the account is sound, and the handle good or not. Assumes nothing.
 use mathlib.Core.Path.{sym, ◌∙◌}
 use Rattle.rules.specs.Refusals.{handle_verdict}
-use borrow.Author.Rules.{rules}
 use Rattle.packets.proofs.handle_verdict.Goals as goal
 
 pub returns-then-is_good : goal.returns-then-is_good

@@ -3,17 +3,13 @@ use native.Mathlib.Omega.{arith}
 use Prim.Native.Nat.{◌+◌}
 use mathlib.Core.Path.{◌≡◌}
 use mathlib.Core.Bool.{true}
-use mathlib.Core.Logic.{⊎_elim}
-use lib.Dec.{eqb, ltb, leb}
+use lib.Dec.{eqb, leb}
 use Rattle.limits.specs.Limits.{HEADROOM}
 use Rattle.laws.specs.Test.{both, either}
 use Rattle.laws.proofs.Test.{either_true}
 use borrow.Author.Tests.{eq-eqb, ne_eqb, lt-ltb, le-ltb}
-use Rattle.pool.specs.Hands.{HAND-OUT}
-use Rattle.rules.specs.Account.{hand_of}
 use Rattle.rules.specs.Sound.{is_good}
 use Rattle.rules.proofs.Facts.{bounds}
-use borrow.Author.Rules.{rules}
 use Rattle.packets.proofs.is_good.Goals as goal
 use Rattle.packets.proofs.is_good.Goals.{Else-account-id-ne-HAND_OUT, then-offset-ne0+else-offset-ne-HEADROOM, else-offset-ne0}
 
@@ -45,9 +41,9 @@ pub returns : goal.returns
 returns c =
     -- the offset is one of the two
     let fine : either (eqb c.args.handle.offset 0) (eqb c.args.handle.offset HEADROOM) ≡ true =
-      elim c.if-offset-ne0.branch [
-        | then-offset-ne0+else-offset-ne-HEADROOM w ↦ rw (eq-eqb _ HEADROOM w.if-offset-ne-HEADROOM.false) (either_true (eqb c.args.handle.offset 0))
-        | else-offset-ne0 w ↦ rw (eq-eqb _ 0 w.if-offset-ne0.false)
-      ]
+    elim c.if-offset-ne0.branch [
+      | then-offset-ne0+else-offset-ne-HEADROOM w ↦ rw (eq-eqb _ HEADROOM w.if-offset-ne-HEADROOM.false) (either_true (eqb c.args.handle.offset 0))
+      | else-offset-ne0 w ↦ rw (eq-eqb _ 0 w.if-offset-ne0.false)
+    ]
     in
     rw (started (goal.at.returns c).Else-account-id-ne-HAND_OUT, fine)

@@ -1,6 +1,5 @@
 -- `packets::open` meets its contract: the ids are those that `count_up` ensures. Assumes nothing.
 use Rattle.rules.specs.Account.{opened}
-use borrow.Author.Rules.{rules}
 use Rattle.packets.proofs.open.Goals as goal
 
 pub returns : goal.returns

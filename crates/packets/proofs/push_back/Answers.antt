@@ -1,7 +1,6 @@
 -- `packets::push_back` meets its contract: what the push gave is the account's stack. Assumes nothing.
 use mathlib.Core.Path.{refl}
 use Rattle.rules.specs.Packets.{released}
-use borrow.Author.Rules.{rules}
 use Rattle.packets.proofs.push_back.Goals as goal
 
 pub returns : goal.returns

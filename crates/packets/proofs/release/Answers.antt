@@ -27,8 +27,7 @@ module _ (c : In-Done) where
   good = good-means _ _ (handle-done _ _ passed).1
 
 pub push_back-requires : goal.push_back-requires
-push_back-requires c =
-    (
+push_back-requires c = (
   omega (arith, held (goal.at.push_back-requires c).In-Done, room_back _ (handle-done _ _ (passed (goal.at.push_back-requires c).In-Done)).0 (full (goal.at.push_back-requires c).Start) _ (good (goal.at.push_back-requires c).In-Done).known (good (goal.at.push_back-requires c).In-Done).out),
   omega (arith, held (goal.at.push_back-requires c).In-Done, good (goal.at.push_back-requires c).In-Done),
 )

@@ -1,8 +1,7 @@
 -- `packets::send_counts` meets its contract: each queue passed has its count, and every other place zero, as before the loop. Assumes nothing.
-use Prim.Native.Nat.{ℕ, zero, suc, ◌+◌, ◌-◌, ◌≤◌, ◌<◌, min}
+use Prim.Native.Nat.{ℕ, zero, suc, ◌+◌, ◌≤◌, ◌<◌, min}
 use mathlib.Core.Path.{◌≡◌, sym, ap, ◌∙◌}
 use mathlib.Core.List.{List, map}
-use mathlib.Core.Logic.{⊎_elim}
 use lib.ListN.{length, get_or, set, length-set, length-replicate, get_or-replicate, length-map}
 use lib.Seq.{get_or-set_same, get_or-set_other, ext_get_or}
 use lib.Arith.{lt_of_le-ne}
@@ -11,7 +10,6 @@ use native.Mathlib.Decide.{ℕ_discrete, dec_lt}
 use native.Mathlib.Nat.{zero-add}
 use native.Mathlib.Omega.{arith}
 use borrow.Author.Tests.{lt-ltb, le-ltb}
-use borrow.Author.Rules.{rules}
 use Rattle.limits.specs.Limits.{SENDS}
 use Rattle.laws.specs.Test.{pick}
 use Rattle.laws.specs.Occurs.{up_from}
@@ -61,8 +59,7 @@ module _ {sends : ℕ} {clean tx counts : List ℕ} {q : ℕ} (m : Counted sends
           by-case (no none) = rw (zero-add, le-ltb k sends (omega arith)) (m.others k (omega (arith, m.all)) (omega (arith, m.all)))
 
 pub loop-q-init : goal.loop-q-init
-loop-q-init c =
-    (
+loop-q-init c = (
   omega arith,
   record {
     all = length-replicate {A = ℕ} SENDS 0;

@@ -1,24 +1,10 @@
--- `packets::send_counts` meets its contract: each queue passed has its count, and every other place zero, as before the loop. Assumes nothing.
-use Prim.Native.Nat.{ℕ, zero, suc, ◌+◌, ◌-◌, ◌≤◌, ◌<◌, min}
-use mathlib.Core.Path.{◌≡◌, sym, ap, ◌∙◌}
-use mathlib.Core.List.{List, map}
-use mathlib.Core.Logic.{⊎_elim}
-use lib.ListN.{length, get_or, set, length-set, length-replicate, get_or-replicate, length-map}
-use lib.Seq.{get_or-set_same, get_or-set_other, ext_get_or}
-use lib.Arith.{lt_of_le-ne}
-use lib.Dec.{ltb}
-use native.Mathlib.Decide.{ℕ_discrete, dec_lt}
-use native.Mathlib.Nat.{zero-add}
-use native.Mathlib.Omega.{arith}
-use borrow.Author.Tests.{lt-ltb, le-ltb}
-use borrow.Author.Rules.{rules}
+-- The loop of `packets::send_counts`: each queue passed has its count, and every other place zero, as before the loop.
+use Prim.Native.Nat.{ℕ, ◌-◌, ◌≤◌, ◌<◌, min}
+use mathlib.Core.Path.{◌≡◌}
+use mathlib.Core.List.{List}
+use lib.ListN.{length, get_or}
 use Rattle.limits.specs.Limits.{SENDS}
-use Rattle.laws.specs.Test.{pick}
-use Rattle.laws.specs.Occurs.{up_from}
-use Rattle.laws.proofs.Occurs.{length-up_from}
 use Rattle.rules.specs.Account.{waiting}
-use Rattle.rules.specs.Packets.{counts_of}
-use Rattle.rules.proofs.Sound.{queues-mean}
 use Rattle.packets.proofs.send_counts.Given as goal
 
 -- the queues before q have their counts, and no other place has one

@@ -1,6 +1,5 @@
 -- `packets::shorten` meets its contract: `least` ensures the length. Assumes nothing.
 use mathlib.Core.Path.{refl}
-use borrow.Author.Rules.{rules}
 use Rattle.packets.proofs.shorten.Goals as goal
 
 pub returns : goal.returns

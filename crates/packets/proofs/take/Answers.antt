@@ -31,8 +31,7 @@ pub overflow_cast-len : goal.overflow_cast-len
 overflow_cast-len c = record { fits = omega (arith, held (goal.at.overflow_cast-len c).In-Done, leb-true c.args.len _ (take_done _ _ (passed (goal.at.overflow_cast-len c).In-Done)).1) }
 
 pub take_top-requires : goal.take_top-requires
-take_top-requires c =
-    (
+take_top-requires c = (
   some (goal.at.take_top-requires c).In-Done,
   omega (arith, held (goal.at.take_top-requires c).In-Done),
   omega (arith, held (goal.at.take_top-requires c).In-Done, (top-known _ (take_done _ _ (passed (goal.at.take_top-requires c).In-Done)).0 (full (goal.at.take_top-requires c).Start) (some (goal.at.take_top-requires c).In-Done)).0),

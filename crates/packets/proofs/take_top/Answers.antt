@@ -1,7 +1,6 @@
 -- `packets::take_top` meets its contract: what the pop gave goes into the handle, the stack and the record of hands. Assumes nothing.
 use mathlib.Core.Path.{refl}
 use Rattle.rules.specs.Packets.{taken}
-use borrow.Author.Rules.{rules}
 use Rattle.packets.proofs.take_top.Goals as goal
 
 pub bounds-hands-id : goal.bounds-hands-id

@@ -1,7 +1,6 @@
 -- `packets::truncate` meets its contract: refused as its verdict says, or shortened. Assumes nothing.
 use mathlib.Core.Path.{sym, ◌∙◌}
 use Rattle.rules.specs.Packets.{truncate_call}
-use borrow.Author.Rules.{rules}
 use Rattle.packets.proofs.truncate.Goals as goal
 
 pub returns-in-Refused : goal.returns-in-Refused

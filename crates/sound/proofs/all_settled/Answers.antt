@@ -1,9 +1,8 @@
 -- `sound::all_settled` meets its contract: the test holds of each id passed. Assumes nothing.
-use Prim.Native.Nat.{ℕ, ◌-◌, ◌≤◌}
+use Prim.Native.Nat.{ℕ}
 use mathlib.Core.Path.{◌≡◌, refl, sym}
-use mathlib.Core.Bool.{Bool, true}
+use mathlib.Core.Bool.{Bool}
 use mathlib.Core.List.{List}
-use mathlib.Core.Logic.{⊎_elim}
 use native.Mathlib.Omega.{arith}
 use borrow.Author.Tests.{eq-eqb, ne_eqb}
 use lib.ListN.{get_or}
@@ -32,15 +31,14 @@ returns-then-seen-id-ne1 c =
 
 pub loop-id-preserved : goal.loop-id-preserved
 unfolding settled
-loop-id-preserved c =
-    (
-      omega arith,
-      every_more (out-or-marked c.args.hands.now c.args.seen.now) _ c.loop-id.invariant.1
-          (elim c.if-hands-id-ne-HAND_OUT.branch [
-            | then-hands-id-ne-HAND_OUT+else-seen-id-ne1 w ↦ simp (ne_eqb _ _ w.if-hands-id-ne-HAND_OUT.true, eq-eqb _ _ w.if-seen-id-ne1.false)
-            | else-hands-id-ne-HAND_OUT w ↦ simp (eq-eqb _ _ w.if-hands-id-ne-HAND_OUT.false)
-          ]),
-    )
+loop-id-preserved c = (
+  omega arith,
+  every_more (out-or-marked c.args.hands.now c.args.seen.now) _ c.loop-id.invariant.1
+      (elim c.if-hands-id-ne-HAND_OUT.branch [
+        | then-hands-id-ne-HAND_OUT+else-seen-id-ne1 w ↦ simp (ne_eqb _ _ w.if-hands-id-ne-HAND_OUT.true, eq-eqb _ _ w.if-seen-id-ne1.false)
+        | else-hands-id-ne-HAND_OUT w ↦ simp (eq-eqb _ _ w.if-hands-id-ne-HAND_OUT.false)
+      ]),
+)
 
 pub returns : goal.returns
 returns c = let all : c.loop-id.id ≡ c.args.entries = omega arith in sym (rw all at c.loop-id.invariant.1)

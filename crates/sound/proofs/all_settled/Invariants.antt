@@ -1,16 +1,7 @@
--- `sound::all_settled` meets its contract: the test holds of each id passed. Assumes nothing.
-use Prim.Native.Nat.{ℕ, ◌-◌, ◌≤◌}
-use mathlib.Core.Path.{◌≡◌, refl, sym}
-use mathlib.Core.Bool.{Bool, true}
-use mathlib.Core.List.{List}
-use mathlib.Core.Logic.{⊎_elim}
-use native.Mathlib.Omega.{arith}
-use borrow.Author.Tests.{eq-eqb, ne_eqb}
-use lib.ListN.{get_or}
-use lib.Dec.{eqb}
-use Rattle.laws.specs.Test.{either, every}
-use Rattle.laws.proofs.Test.{every_more, every-fails}
-use Rattle.pool.specs.Hands.{HAND-OUT}
+-- The loop of `sound::all_settled`: the test holds of each id passed.
+use Prim.Native.Nat.{◌-◌, ◌≤◌}
+use mathlib.Core.Path.{◌≡◌}
+use mathlib.Core.Bool.{true}
 use Rattle.sound.specs.Marks.{settled}
 use Rattle.sound.proofs.all_settled.Given as goal
 

@@ -1,11 +1,10 @@
 -- `sound::in_places` meets its contract: the lists are marked hand after hand, the application's being empty. The loop's invariant: with q
 -- queues done, the lists of the first 3 + q hands are marked. The invariant sees the account's parts, so it speaks of every account that has
 -- them. Assumes nothing.
-use Prim.Native.Nat.{ℕ, ◌+◌, ◌-◌, ◌≤◌, ◌<◌}
+use Prim.Native.Nat.{ℕ, ◌+◌, ◌≤◌, ◌<◌}
 use mathlib.Core.Path.{◌≡◌, refl, sym, ap, ◌∙◌}
 use mathlib.Core.Bool.{Bool, true, false}
 use mathlib.Core.List.{List, []}
-use mathlib.Core.Logic.{⊎_elim}
 use native.Mathlib.Omega.{arith}
 use borrow.Author.Rules.{rules}
 use lib.ListN.{length, get_or, take, replicate}
@@ -133,13 +132,12 @@ pub overflow_sub-pending : goal.overflow_sub-pending
 overflow_sub-pending c = omega (arith, (indices-of c.args.account c.requires c.loop-q.q c.loop-q-test.true).clean-below)
 
 pub mark_around-requires : goal.mark_around-requires
-mark_around-requires c =
-    (
-      few-queues c.args.account c.requires c.loop-q.q c.loop-q-test.true,
-      (indices-of c.args.account c.requires c.loop-q.q c.loop-q-test.true).clean-below,
-      omega arith,
-      (numbers c.args.account c.requires).few-entries,
-    )
+mark_around-requires c = (
+  few-queues c.args.account c.requires c.loop-q.q c.loop-q-test.true,
+  (indices-of c.args.account c.requires c.loop-q.q c.loop-q-test.true).clean-below,
+  omega arith,
+  (numbers c.args.account c.requires).few-entries,
+)
 
 -- the next queue's list is marked
 module _ (c : After-mark_around) where

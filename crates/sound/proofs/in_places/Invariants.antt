@@ -1,22 +1,13 @@
--- `sound::in_places` meets its contract: the lists are marked hand after hand, the application's being empty. The loop's invariant: with q
-use Prim.Native.Nat.{ℕ, ◌+◌, ◌-◌, ◌≤◌, ◌<◌}
-use mathlib.Core.Path.{◌≡◌, refl, sym, ap, ◌∙◌}
-use mathlib.Core.Bool.{Bool, true, false}
-use mathlib.Core.List.{List, []}
-use mathlib.Core.Logic.{⊎_elim}
-use native.Mathlib.Omega.{arith}
-use borrow.Author.Rules.{rules}
-use lib.ListN.{length, get_or, take}
-use lib.Seq.{take_all}
-use Rattle.limits.specs.Limits.{ENTRIES, SENDS, SLOTS}
-use Rattle.pool.specs.Hands.{HAND-FREE, HAND-RECEIVE, HAND-OUT, HAND-SEND}
+-- The loop of `sound::in_places`: with q queues done, the lists of the first 3 + q hands are marked. The invariant sees the account's parts, so
+-- it speaks of every account that has them.
+use Prim.Native.Nat.{ℕ, ◌+◌, ◌-◌, ◌≤◌}
+use mathlib.Core.Path.{◌≡◌}
+use mathlib.Core.Bool.{true}
+use mathlib.Core.List.{List}
+use Rattle.pool.specs.Hands.{HAND-SEND}
 use Rattle.rules.specs.declared.Account.{Account}
-use Rattle.rules.specs.Account.{list_of, with_send}
-use Rattle.rules.specs.Sound.{InRange, Indices, hands}
-use Rattle.rules.proofs.Lists.{list-free, list-receive, list-out, list-send}
-use Rattle.rules.proofs.Sound.{in-range-means, queues-mean}
-use Rattle.sound.specs.Marks.{mark_all, mark_lists, in_places}
-use Rattle.sound.proofs.Marks.{lists-next, lists-fails}
+use Rattle.rules.specs.Account.{with_send}
+use Rattle.sound.specs.Marks.{mark_lists}
 use Rattle.sound.proofs.in_places.Given as goal
 
 -- the lists of the first n hands are marked

@@ -1,7 +1,6 @@
 -- `sound::in_range` meets its contract: each test that fails makes `in_range` false, and the last one decides. Assumes nothing.
 use mathlib.Core.Path.{sym, ◌∙◌}
 use native.Mathlib.Omega.{arith}
-use borrow.Author.Rules.{rules}
 use borrow.Author.Tests.{lt-ltb, le-ltb, le-leb, lt-leb}
 use Rattle.laws.proofs.Test.{both_false}
 use Rattle.rules.specs.Sound.{in_range}

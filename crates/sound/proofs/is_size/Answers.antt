@@ -1,14 +1,13 @@
 -- `sound::is_size` meets its contract. The loop's invariant: `power` is the size after so many doublings, and none before it was the one asked.
 -- Assumes nothing.
-use Prim.Native.Nat.{ℕ, ◌+◌, ◌-◌, ◌*◌, ◌^◌, ◌≤◌}
+use Prim.Native.Nat.{ℕ, ◌+◌}
 use mathlib.Core.Path.{◌≡◌, refl, sym, ◌∙◌}
 use mathlib.Core.Bool.{Bool, false}
 use native.Mathlib.Nat.{pow-suc, pow-le-pow_right}
 use native.Mathlib.Numerals.{add-one}
 use native.Mathlib.Omega.{arith}
 use borrow.Author.Tests.{eq-eqb, ne_eqb}
-use lib.Dec.{eqb}
-use Rattle.limits.specs.Limits.{SMALLEST-SIZE, SIZE-DOUBLINGS}
+use Rattle.limits.specs.Limits.{SIZE-DOUBLINGS}
 use Rattle.laws.specs.Test.{some}
 use Rattle.laws.proofs.Test.{some_at}
 use Rattle.rules.specs.Sound.{is_size}
@@ -35,8 +34,7 @@ pub overflow_mul-power : goal.overflow_mul-power
 overflow_mul-power c = omega (arith, pow-le-pow_right {n = 2} (omega arith) {i = c.loop.counter} {j = SIZE-DOUBLINGS} (omega arith))
 
 pub loop-preserved : goal.loop-preserved
-loop-preserved c =
-    (
+loop-preserved c = (
   omega arith,
   rw (add-one, pow-suc) (omega arith),
   some_more (doubled c.args.size) c.loop.counter c.loop.invariant.2

@@ -1,16 +1,10 @@
--- `sound::is_size` meets its contract. The loop's invariant: `power` is the size after so many doublings, and none before it was the one asked.
+-- The loop of `sound::is_size`: `power` is the size after so many doublings, and none before it was the one asked.
 use Prim.Native.Nat.{ℕ, ◌+◌, ◌-◌, ◌*◌, ◌^◌, ◌≤◌}
-use mathlib.Core.Path.{◌≡◌, refl, sym, ◌∙◌}
+use mathlib.Core.Path.{◌≡◌}
 use mathlib.Core.Bool.{Bool, false}
-use native.Mathlib.Nat.{pow-suc, pow-le-pow_right}
-use native.Mathlib.Numerals.{add-one}
-use native.Mathlib.Omega.{arith}
-use borrow.Author.Tests.{eq-eqb, ne_eqb}
 use lib.Dec.{eqb}
 use Rattle.limits.specs.Limits.{SMALLEST-SIZE, SIZE-DOUBLINGS}
 use Rattle.laws.specs.Test.{some}
-use Rattle.laws.proofs.Test.{some_at}
-use Rattle.rules.specs.Sound.{is_size}
 use Rattle.sound.proofs.is_size.Given as goal
 
 -- the size asked is the smallest after so many doublings

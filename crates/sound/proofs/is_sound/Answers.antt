@@ -1,7 +1,6 @@
 -- `sound::is_sound` meets its contract: each test that fails makes `sound` false, and where all hold, the ids' places decide. Assumes nothing.
 use mathlib.Core.Path.{◌≡◌, sym, ◌∙◌}
 use mathlib.Core.Bool.{true}
-use borrow.Author.Rules.{rules}
 use borrow.Author.Tests.{lt-leb}
 use Rattle.laws.proofs.Test.{both_false}
 use Rattle.rules.specs.Sound.{in_range, sound}

@@ -1,6 +1,5 @@
 -- `sound::mark` meets its contract: each test that fails makes `markable` false and leaves the marks. Assumes nothing.
 use mathlib.Core.Path.{refl}
-use borrow.Author.Rules.{rules}
 use borrow.Author.Tests.{lt-ltb, le-ltb, eq-eqb, ne_eqb}
 use Rattle.sound.proofs.mark.Goals as goal
 

@@ -1,6 +1,6 @@
--- `sound::mark_around` meets its contract. The loop's invariant: marking the ids that are left gives what marking all of them gave at the c.
+-- `sound::mark_around` meets its contract. The loop's invariant: marking the ids that are left gives what marking all of them gave at the start.
 -- Assumes nothing.
-use Prim.Native.Nat.{ℕ, suc, ◌+◌, ◌-◌, ◌%◌, ◌≤◌, ◌<◌}
+use Prim.Native.Nat.{ℕ, suc, ◌+◌, ◌-◌, ◌%◌, ◌<◌}
 use mathlib.Core.Path.{◌≡◌, sym, ◌∙◌}
 use mathlib.Core.List.{List, ◌∷◌}
 use native.Mathlib.Omega.{arith}
@@ -49,8 +49,7 @@ returns-then-not-mark c =
     ∙ left (goal.at.returns-then-not-mark c).After-mark
 
 pub loop-i-preserved : goal.loop-i-preserved
-loop-i-preserved c =
-    (
+loop-i-preserved c = (
   omega arith,
   sym (turn_more _ _ _ _ (rest (goal.at.loop-i-preserved c).After-mark) _ _ _ c.mark.ensures.says c.mark.ensures.leaves c.if-not-mark.false)
       ∙ left (goal.at.loop-i-preserved c).After-mark,

@@ -1,14 +1,10 @@
--- `sound::mark_around` meets its contract. The loop's invariant: marking the ids that are left gives what marking all of them gave at the start.
-use Prim.Native.Nat.{ℕ, suc, ◌+◌, ◌-◌, ◌%◌, ◌≤◌, ◌<◌}
-use mathlib.Core.Path.{◌≡◌, sym, ◌∙◌}
-use mathlib.Core.List.{List, ◌∷◌}
-use native.Mathlib.Omega.{arith}
-use lib.ListN.{get_or}
+-- The loop of `sound::mark_around`: marking the ids that are left gives what marking all of them gave at the start.
+use Prim.Native.Nat.{ℕ, ◌+◌, ◌-◌, ◌%◌, ◌≤◌}
+use mathlib.Core.Path.{◌≡◌}
+use mathlib.Core.List.{List}
 use Rattle.limits.specs.Limits.{SLOTS}
-use Rattle.pool.specs.Hands.{HAND-SEND}
-use Rattle.rules.specs.Account.{next_slot, send_place, around}
+use Rattle.rules.specs.Account.{around}
 use Rattle.sound.specs.Marks.{mark_all}
-use Rattle.sound.proofs.Marks.{turn_more, turn-fails}
 use Rattle.sound.proofs.mark_around.Given as goal
 
 -- what is left of n ids after i of them

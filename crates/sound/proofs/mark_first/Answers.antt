@@ -1,6 +1,6 @@
--- `sound::mark_first` meets its contract. The loop's invariant: marking the ids that are left gives what marking all of them gave at the c.
+-- `sound::mark_first` meets its contract. The loop's invariant: marking the ids that are left gives what marking all of them gave at the start.
 -- Assumes nothing.
-use Prim.Native.Nat.{ℕ, ◌+◌, ◌-◌, ◌≤◌, ◌<◌}
+use Prim.Native.Nat.{ℕ, ◌+◌, ◌≤◌, ◌<◌}
 use mathlib.Core.Path.{◌≡◌, refl, sym, ◌∙◌}
 use mathlib.Core.List.{List, ◌∷◌}
 use native.Mathlib.Numerals.{add-one}
@@ -38,8 +38,7 @@ returns-then-not-mark c =
     ∙ left (goal.at.returns-then-not-mark c).After-mark
 
 pub loop-i-preserved : goal.loop-i-preserved
-loop-i-preserved c =
-    (
+loop-i-preserved c = (
   omega arith,
   sym (turn_more _ _ _ _ (rest (goal.at.loop-i-preserved c).After-mark) _ _ _ c.mark.ensures.says c.mark.ensures.leaves c.if-not-mark.false)
       ∙ left (goal.at.loop-i-preserved c).After-mark,

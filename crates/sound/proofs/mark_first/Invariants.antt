@@ -1,13 +1,8 @@
--- `sound::mark_first` meets its contract. The loop's invariant: marking the ids that are left gives what marking all of them gave at the start.
-use Prim.Native.Nat.{ℕ, ◌+◌, ◌-◌, ◌≤◌, ◌<◌}
-use mathlib.Core.Path.{◌≡◌, refl, sym, ◌∙◌}
-use mathlib.Core.List.{List, ◌∷◌}
-use native.Mathlib.Numerals.{add-one}
-use native.Mathlib.Omega.{arith}
-use lib.ListN.{length, get_or, take, drop}
-use lib.Seq.{drop-cons, drop-length, get_or-take, length-take-le}
+-- The loop of `sound::mark_first`: marking the ids that are left gives what marking all of them gave at the start.
+use Prim.Native.Nat.{◌-◌, ◌≤◌}
+use mathlib.Core.Path.{◌≡◌}
+use lib.ListN.{take, drop}
 use Rattle.sound.specs.Marks.{mark_all}
-use Rattle.sound.proofs.Marks.{turn_more, turn-fails}
 use Rattle.sound.proofs.mark_first.Given as goal
 
 abbrev pub invariant-loop-i : goal.invariant-loop-i

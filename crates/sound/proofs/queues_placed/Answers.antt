@@ -1,10 +1,9 @@
 -- `sound::queues_placed` meets its contract: the test holds of each queue passed. Assumes nothing.
-use Prim.Native.Nat.{ℕ, ◌-◌, ◌≤◌}
+use Prim.Native.Nat.{ℕ}
 use mathlib.Core.Path.{◌≡◌, refl, sym, ◌∙◌}
-use mathlib.Core.Bool.{Bool, true}
+use mathlib.Core.Bool.{Bool}
 use mathlib.Core.List.{List}
 use native.Mathlib.Omega.{arith}
-use borrow.Author.Rules.{rules}
 use lib.ListN.{get_or}
 use Rattle.laws.specs.Test.{every}
 use Rattle.laws.proofs.Test.{every_more, every-fails}
@@ -28,12 +27,11 @@ returns-then-not-index_pair c =
 
 pub loop-q-preserved : goal.loop-q-preserved
 unfolding queues_placed
-loop-q-preserved c =
-    (
-      omega arith,
-      every_more (placed c.args.clean.now c.args.tx.now) _ c.loop-q.invariant.1
-          (sym c.index_pair.ensures ∙ c.if-not-index_pair.false),
-    )
+loop-q-preserved c = (
+  omega arith,
+  every_more (placed c.args.clean.now c.args.tx.now) _ c.loop-q.invariant.1
+      (sym c.index_pair.ensures ∙ c.if-not-index_pair.false),
+)
 
 pub returns : goal.returns
 returns c = let all : c.loop-q.q ≡ c.args.sends = omega arith in sym (rw all at c.loop-q.invariant.1)

@@ -1,5 +1,5 @@
 -- `words::describe` meets its contract: its three writes are those of a described slot. Assumes nothing.
-use Rattle.std.proofs.Common.{◌≡◌, ◌+◌, ap, ◌∙◌, rules}
+use Rattle.std.proofs.Common.{◌+◌, ap, ◌∙◌}
 use Rattle.words.specs.Le.{put_le}
 use Rattle.words.specs.Slots.{slot_at, command_of, payload_of, described}
 use Rattle.words.proofs.describe.Goals as goal

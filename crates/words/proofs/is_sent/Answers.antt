@@ -1,5 +1,4 @@
 -- `words::is_sent` meets its contract: the test is made of the word that `read32` ensures. Assumes nothing.
-use Rattle.std.proofs.Common.{rules}
 use Rattle.words.proofs.is_sent.Goals as goal
 
 pub returns : goal.returns

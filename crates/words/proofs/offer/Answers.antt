@@ -1,5 +1,5 @@
 -- `words::offer` meets its contract: its two writes are those of an offered slot. Assumes nothing.
-use Rattle.std.proofs.Common.{◌≡◌, ◌+◌, ap, ◌∙◌, rules}
+use Rattle.std.proofs.Common.{◌+◌, ap, ◌∙◌}
 use Rattle.words.specs.Le.{put_le}
 use Rattle.words.specs.Slots.{slot_at, offered}
 use Rattle.words.proofs.offer.Goals as goal

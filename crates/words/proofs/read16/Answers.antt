@@ -1,5 +1,5 @@
 -- `words::read16` meets its contract: each byte is below 256, so the sum fits. Assumes nothing.
-use Rattle.std.proofs.Common.{◌+◌, arith, rules}
+use Rattle.std.proofs.Common.{◌+◌, arith}
 use Rattle.words.specs.Le.{le_at}
 use Rattle.words.proofs.read16.Goals as goal
 

@@ -1,5 +1,5 @@
 -- `words::read64` meets its contract: it is two words of 32 bits, the low one first. Assumes nothing.
-use Rattle.std.proofs.Common.{arith, rules}
+use Rattle.std.proofs.Common.{arith}
 use Rattle.words.proofs.Laws.{read-parts}
 use Rattle.words.proofs.read64.Goals as goal
 

@@ -1,5 +1,5 @@
 -- `words::write` meets its contract. The invariant: the bytes that are left, put from where the loop stands, give the whole. Assumes nothing.
-use Rattle.std.proofs.Common.{◌≡◌, ◌+◌, ◌-◌, ◌≤◌, length, refl, add-zero, arith, length-set}
+use Rattle.std.proofs.Common.{◌≡◌, ◌-◌, refl, add-zero, arith, length-set}
 use native.Mathlib.Nat.{sub-zero}
 use Rattle.words.specs.Le.{put_le}
 use Rattle.words.proofs.Laws.{put-turn}

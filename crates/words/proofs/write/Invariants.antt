@@ -1,8 +1,6 @@
 -- `words::write` meets its contract. The invariant: the bytes that are left, put from where the loop stands, give the whole. Assumes nothing.
-use Rattle.std.proofs.Common.{◌≡◌, ◌+◌, ◌-◌, ◌≤◌, length, refl, add-zero, arith, length-set}
-use native.Mathlib.Nat.{sub-zero}
+use Rattle.std.proofs.Common.{◌≡◌, ◌+◌, ◌-◌, ◌≤◌, length}
 use Rattle.words.specs.Le.{put_le}
-use Rattle.words.proofs.Laws.{put-turn}
 use Rattle.words.proofs.write.Given as goal
 
 abbrev pub invariant-loop-i : goal.invariant-loop-i
