@@ -5,6 +5,7 @@ use pool::Handle;
 use replay_lines::{mixed, show, show_count, show_counts, show_handle, show_verdict, show_whether};
 use replay_records::{MOST, byte, half, of_byte, word};
 use rules::{Account, Kept, Taken};
+use std::io::{Result, Write};
 
 // The handle that a body begins with.
 fn handle_of(n: [u64; MOST]) -> Handle {
@@ -17,83 +18,94 @@ fn handle_of(n: [u64; MOST]) -> Handle {
 }
 
 // An answer that is a number.
-fn kept(answer: Kept) -> Account {
+fn kept<W: Write>(output: &mut W, answer: Kept) -> Result<Account> {
     let verdict = answer.verdict;
-    show_verdict(verdict);
-    show_counts(answer.account);
-    answer.account
+    show_verdict(output, verdict)?;
+    show_counts(output, answer.account)?;
+    Ok(answer.account)
 }
 
 // An answer that has a handle.
-fn taken(answer: Taken) -> Account {
+fn taken<W: Write>(output: &mut W, answer: Taken) -> Result<Account> {
     let verdict = answer.verdict;
-    show_verdict(verdict);
-    show_handle(answer.handle);
-    show_counts(answer.account);
-    answer.account
+    show_verdict(output, verdict)?;
+    show_handle(output, answer.handle)?;
+    show_counts(output, answer.account)?;
+    Ok(answer.account)
 }
 
-fn fresh(n: [u64; MOST]) -> Account {
-    kept(calls::fresh(
-        word(n[0]),
-        n[1] as usize,
-        n[2] as usize,
-        n[3] as usize,
-        n[4] as usize,
-    ))
+fn fresh<W: Write>(output: &mut W, n: [u64; MOST]) -> Result<Account> {
+    kept(
+        output,
+        calls::fresh(
+            word(n[0]),
+            n[1] as usize,
+            n[2] as usize,
+            n[3] as usize,
+            n[4] as usize,
+        ),
+    )
 }
 
-fn counts(account: Account) -> Account {
+fn counts<W: Write>(output: &mut W, account: Account) -> Result<Account> {
     let counts = calls::counts(account);
     let verdict = counts.verdict;
     let send = counts.send;
-    show_verdict(verdict);
-    show_count(counts.free);
-    show_count(counts.receive);
-    show_count(send[0]);
-    show_count(send[1]);
-    show_count(send[2]);
-    show_count(send[3]);
-    show_count(counts.out);
-    account
+    show_verdict(output, verdict)?;
+    show_count(output, counts.free)?;
+    show_count(output, counts.receive)?;
+    show_count(output, send[0])?;
+    show_count(output, send[1])?;
+    show_count(output, send[2])?;
+    show_count(output, send[3])?;
+    show_count(output, counts.out)?;
+    Ok(account)
 }
 
-fn take(n: [u64; MOST], account: Account) -> Account {
-    taken(calls::take(account, n[0] as usize))
+fn take<W: Write>(output: &mut W, n: [u64; MOST], account: Account) -> Result<Account> {
+    taken(output, calls::take(account, n[0] as usize))
 }
 
-fn release(n: [u64; MOST], account: Account) -> Account {
-    kept(calls::release(account, handle_of(n)))
+fn release<W: Write>(output: &mut W, n: [u64; MOST], account: Account) -> Result<Account> {
+    kept(output, calls::release(account, handle_of(n)))
 }
 
-fn truncate(n: [u64; MOST], account: Account) -> Account {
+fn truncate<W: Write>(output: &mut W, n: [u64; MOST], account: Account) -> Result<Account> {
     let answer = calls::truncate(account, handle_of(n), n[4] as usize);
     let verdict = answer.verdict;
-    show_verdict(verdict);
-    show_handle(answer.handle);
-    account
+    show_verdict(output, verdict)?;
+    show_handle(output, answer.handle)?;
+    Ok(account)
 }
 
-fn is_sound(account: Account) -> Account {
-    show_whether(sound::is_sound(account));
-    account
+fn is_sound<W: Write>(output: &mut W, account: Account) -> Result<Account> {
+    show_whether(output, sound::is_sound(account))?;
+    Ok(account)
 }
 
-fn in_range(n: [u64; MOST], account: Account) -> Account {
-    show_whether(sound::in_range(n[0] as usize, n[1] as usize, n[2] as usize, n[3] as usize));
-    account
+fn in_range<W: Write>(output: &mut W, n: [u64; MOST], account: Account) -> Result<Account> {
+    show_whether(
+        output,
+        sound::in_range(n[0] as usize, n[1] as usize, n[2] as usize, n[3] as usize),
+    )?;
+    Ok(account)
 }
 
 // A call that is lent nothing.
-pub fn call(kind: u16, n: [u64; MOST], account: Account) -> Account {
+pub fn call<W: Write>(
+    output: &mut W,
+    kind: u16,
+    n: [u64; MOST],
+    account: Account,
+) -> Result<Account> {
     match kind {
-        1 => fresh(n),
-        2 => counts(account),
-        3 => take(n, account),
-        5 => release(n, account),
-        6 => truncate(n, account),
-        13 => is_sound(account),
-        _ => in_range(n, account),
+        1 => fresh(output, n),
+        2 => counts(output, account),
+        3 => take(output, n, account),
+        5 => release(output, n, account),
+        6 => truncate(output, n, account),
+        13 => is_sound(output, account),
+        _ => in_range(output, n, account),
     }
 }
 
@@ -116,37 +128,61 @@ fn fill(part: &mut [u8], byte: u8) -> usize {
     part.len()
 }
 
-fn clone(n: [u64; MOST], account: Account, memory: &mut [u8]) -> Account {
-    taken(calls::clone(account, handle_of(n), memory))
+fn clone<W: Write>(
+    output: &mut W,
+    n: [u64; MOST],
+    account: Account,
+    memory: &mut [u8],
+) -> Result<Account> {
+    taken(output, calls::clone(account, handle_of(n), memory))
 }
 
-fn view(n: [u64; MOST], account: Account, memory: &[u8]) -> Account {
+fn view<W: Write>(
+    output: &mut W,
+    n: [u64; MOST],
+    account: Account,
+    memory: &[u8],
+) -> Result<Account> {
     let handle = handle_of(n);
-    show_verdict(calls::view_verdict(account, handle, memory.len()));
+    show_verdict(output, calls::view_verdict(account, handle, memory.len()))?;
     let part = calls::view(account, handle, memory);
-    show_count(part.len());
-    show(digest(part));
-    account
+    show_count(output, part.len())?;
+    show(output, digest(part))?;
+    Ok(account)
 }
 
-fn headroom(n: [u64; MOST], account: Account, memory: &mut [u8]) -> Account {
+fn headroom<W: Write>(
+    output: &mut W,
+    n: [u64; MOST],
+    account: Account,
+    memory: &mut [u8],
+) -> Result<Account> {
     let handle = handle_of(n);
     let asked = n[4] as usize;
-    show_verdict(calls::headroom_verdict(account, handle, asked, memory.len()));
+    show_verdict(
+        output,
+        calls::headroom_verdict(account, handle, asked, memory.len()),
+    )?;
     let part = calls::headroom(account, handle, asked, memory);
-    show_count(fill(part, byte(n[6])));
-    account
+    show_count(output, fill(part, byte(n[6])))?;
+    Ok(account)
 }
 
 // A call that is lent the first bytes of packet memory.
-pub fn call_in_memory(kind: u16, n: [u64; MOST], account: Account, bytes: &mut [u8]) -> Account {
+pub fn call_in_memory<W: Write>(
+    output: &mut W,
+    kind: u16,
+    n: [u64; MOST],
+    account: Account,
+    bytes: &mut [u8],
+) -> Result<Account> {
     let asked = if kind == 9 { n[5] } else { n[4] };
     let first = least(KEPT, bytes.len());
     let last = first + least(asked as usize, bytes.len() - first);
     let memory = &mut bytes[first..last];
     match kind {
-        7 => clone(n, account, memory),
-        8 => view(n, account, memory),
-        _ => headroom(n, account, memory),
+        7 => clone(output, n, account, memory),
+        8 => view(output, n, account, memory),
+        _ => headroom(output, n, account, memory),
     }
 }
