@@ -6,7 +6,7 @@
 mod fields;
 mod kept;
 mod loans;
-mod packets;
+mod packet_calls;
 
 pub use fields::blank;
 pub use kept::{KEPT, ROOM};
@@ -52,7 +52,7 @@ fn played<W: Write>(
     let n = body.numbers;
     match kind {
         4 | 10 | 11 | 12 => loans::call(output, kind, n, account, bytes),
-        7 | 8 | 9 => packets::call_in_memory(output, kind, n, account, bytes),
+        7 | 8 | 9 => packet_calls::call_in_memory(output, kind, n, account, bytes),
         20 | 21 | 22 | 23 => {
             kept::set(output, kind, body, rest, bytes)?;
             Ok(account)
@@ -64,7 +64,7 @@ fn played<W: Write>(
         }
         33 => fields::tell(output, account),
         34 => fields::tell_array(output, n, account),
-        _ => packets::call(output, kind, n, account),
+        _ => packet_calls::call(output, kind, n, account),
     }
 }
 
