@@ -2,109 +2,125 @@
 
 #![tactic(auto)]
 
-use libc::STDOUT_FILENO;
 use limits::SENDS;
 use pool::Handle;
 use rules::{Account, Refusal, Stop, Tail, Verdict};
 use startup::Action;
+use std::io::{Result, Write};
 
 // A word as it is.
-fn say(word: &[u8]) {
-    io::write_all(STDOUT_FILENO, word);
+fn say<W: Write>(output: &mut W, word: &[u8]) -> Result<()> {
+    output.write_all(word)
+}
+
+// A number in decimal.
+fn say_number<W: Write>(output: &mut W, n: u64) -> Result<()> {
+    let mut text = [0u8; 20];
+    let digits = io::decimal(n, &mut text);
+    say(output, &text[..digits])
 }
 
 // A word of a text in which each word stands after a space, by how many stand before it.
-fn say_word(words: &[u8], before: usize) {
+fn say_word<W: Write>(output: &mut W, words: &[u8], before: usize) -> Result<()> {
     let mut passed = 0;
     let mut first = 0;
     for i in 1..words.len() {
         if words[i] == b' ' {
             if passed == before {
-                say(&words[first..i]);
-                return;
+                return say(output, &words[first..i]);
             }
             passed += 1;
             first = i;
         }
     }
-    say(&words[first..]);
+    say(output, &words[first..])
 }
 
 // The word of a kind.
-fn say_kind(kind: u16) {
+fn say_kind<W: Write>(output: &mut W, kind: u16) -> Result<()> {
     match kind {
         0..=14 => say_word(
+            output,
             b" - fresh counts take batch release truncate clone view headroom start receive send sound in-range",
             kind as usize,
         ),
-        20..=24 => say_word(b" ring list addresses memory forge", kind as usize - 20),
+        20..=24 => say_word(
+            output,
+            b" ring list addresses memory forge",
+            kind as usize - 20,
+        ),
         30..=35 => say_word(
+            output,
             b" slot places bytes account array digest",
             kind as usize - 30,
         ),
         40..=44 => say_word(
+            output,
             b" set-up step state-sound forge-state state",
             kind as usize - 40,
         ),
         50..=62 => say_word(
+            output,
             b" counters add sums link speed mac mac-of mac-write promiscuous enable disable byte-count in-map",
             kind as usize - 50,
         ),
         70..=75 => say_word(
+            output,
             b" window tick rated window-sound forge-window window-fields",
             kind as usize - 70,
         ),
-        _ => {}
+        _ => Ok(()),
     }
 }
 
 // What a line begins with: the record's number and the word of its kind.
-pub fn begin(number: u64, kind: u16) {
-    io::print_decimal(STDOUT_FILENO, number);
-    say_kind(kind);
+pub fn begin<W: Write>(output: &mut W, number: u64, kind: u16) -> Result<()> {
+    say_number(output, number)?;
+    say_kind(output, kind)
 }
 
 // A line's end.
-pub fn end() {
-    say(b"\n");
+pub fn end<W: Write>(output: &mut W) -> Result<()> {
+    say(output, b"\n")
 }
 
 // The line of a record that is not good.
-pub fn bad(number: u64) {
-    say(b"bad");
-    show(number);
-    end();
+pub fn bad<W: Write>(output: &mut W, number: u64) -> Result<()> {
+    say(output, b"bad")?;
+    show(output, number)?;
+    end(output)
 }
 
 // ---- numbers, each after a space
 
-pub fn show(n: u64) {
-    say(b" ");
-    io::print_decimal(STDOUT_FILENO, n);
+pub fn show<W: Write>(output: &mut W, n: u64) -> Result<()> {
+    say(output, b" ")?;
+    say_number(output, n)
 }
 
-pub fn show_count(n: usize) {
-    show(n as u64);
+pub fn show_count<W: Write>(output: &mut W, n: usize) -> Result<()> {
+    show(output, n as u64)
 }
 
-pub fn show_word(n: u32) {
-    show(n as u64);
+pub fn show_word<W: Write>(output: &mut W, n: u32) -> Result<()> {
+    show(output, n as u64)
 }
 
 // Whether something holds, as 1 or 0.
-pub fn show_whether(holds: bool) {
+pub fn show_whether<W: Write>(output: &mut W, holds: bool) -> Result<()> {
     if holds {
-        show(1);
+        show(output, 1)
     } else {
-        show(0);
+        show(output, 0)
     }
 }
 
 // Every number of a list.
-pub fn show_numbers(list: &[u64]) {
+pub fn show_numbers<W: Write>(output: &mut W, list: &[u64]) -> Result<()> {
     for i in 0..list.len() {
-        show(list[i]);
+        show(output, list[i])?;
     }
+    Ok(())
 }
 
 // One more number in a digest.
@@ -115,46 +131,47 @@ pub fn mixed(digest: u64, n: u64) -> u64 {
 // ---- answers
 
 // Document 01's number of a refusal, and after a 4 the index.
-pub fn show_refusal(why: Refusal) {
-    show(calls::refusal_number(why));
+pub fn show_refusal<W: Write>(output: &mut W, why: Refusal) -> Result<()> {
+    show(output, calls::refusal_number(why))?;
     if let Refusal::BadHandle(index) = why {
-        show_count(index);
+        show_count(output, index)?;
     }
+    Ok(())
 }
 
 // Document 01's number of a call.
-pub fn show_verdict(verdict: Verdict) {
+pub fn show_verdict<W: Write>(output: &mut W, verdict: Verdict) -> Result<()> {
     match verdict {
-        Verdict::Done => show(0),
-        Verdict::Refused(why) => show_refusal(why),
+        Verdict::Done => show(output, 0),
+        Verdict::Refused(why) => show_refusal(output, why),
     }
 }
 
 // Why a receive stopped.
-pub fn show_stop(stop: Stop) {
+pub fn show_stop<W: Write>(output: &mut W, stop: Stop) -> Result<()> {
     match stop {
-        Stop::Asked => say(b" asked"),
-        Stop::NotDone => say(b" not-done"),
-        Stop::Split => say(b" split"),
-        Stop::TooLong => say(b" too-long"),
-        Stop::NoBuffer => say(b" no-buffer"),
+        Stop::Asked => say(output, b" asked"),
+        Stop::NotDone => say(output, b" not-done"),
+        Stop::Split => say(output, b" split"),
+        Stop::TooLong => say(output, b" too-long"),
+        Stop::NoBuffer => say(output, b" no-buffer"),
     }
 }
 
 // A tail's slot, or a dash where none is written.
-pub fn show_tail(tail: Tail) {
+pub fn show_tail<W: Write>(output: &mut W, tail: Tail) -> Result<()> {
     match tail {
-        Tail::Unwritten => say(b" -"),
-        Tail::Written(slot) => show_count(slot),
+        Tail::Unwritten => say(output, b" -"),
+        Tail::Written(slot) => show_count(output, slot),
     }
 }
 
 // The four numbers of a handle.
-pub fn show_handle(handle: Handle) {
-    show(handle.pool as u64);
-    show(handle.id as u64);
-    show(handle.offset as u64);
-    show(handle.length as u64);
+pub fn show_handle<W: Write>(output: &mut W, handle: Handle) -> Result<()> {
+    show(output, handle.pool as u64)?;
+    show(output, handle.id as u64)?;
+    show(output, handle.offset as u64)?;
+    show(output, handle.length as u64)
 }
 
 // The sum of the send queues' counts, which is never more than the entries.
@@ -166,36 +183,36 @@ fn together(send: [usize; SENDS]) -> usize {
 }
 
 // How many buffers are free, on the receive ring, in all send queues, and out.
-pub fn show_counts(account: Account) {
+pub fn show_counts<W: Write>(output: &mut W, account: Account) -> Result<()> {
     let counts = calls::counts(account);
     let send = counts.send;
-    show_count(counts.free);
-    show_count(counts.receive);
-    show_count(together(send));
-    show_count(counts.out);
+    show_count(output, counts.free)?;
+    show_count(output, counts.receive)?;
+    show_count(output, together(send))?;
+    show_count(output, counts.out)
 }
 
 // What the host does next with the registers.
-pub fn show_action(action: Action) {
+pub fn show_action<W: Write>(output: &mut W, action: Action) -> Result<()> {
     match action {
         Action::Read(register) => {
-            say(b" read");
-            show_word(register);
+            say(output, b" read")?;
+            show_word(output, register)
         }
         Action::Write(register, value) => {
-            say(b" write");
-            show_word(register);
-            show_word(value);
+            say(output, b" write")?;
+            show_word(output, register)?;
+            show_word(output, value)
         }
         Action::Pause(ms) => {
-            say(b" pause");
-            show_word(ms);
+            say(output, b" pause")?;
+            show_word(output, ms)
         }
-        Action::Done => say(b" done"),
+        Action::Done => say(output, b" done"),
         Action::Refused(number, register) => {
-            say(b" refused");
-            show_word(number);
-            show_word(register);
+            say(output, b" refused")?;
+            show_word(output, number)?;
+            show_word(output, register)
         }
     }
 }
