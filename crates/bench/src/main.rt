@@ -2,6 +2,9 @@
 
 #![tactic(auto)]
 
-fn main() {
-    desk::serve(u64::MAX);
+use std::io::Result;
+
+fn main(rt: HostRuntime) -> Result<()> {
+    desk::serve(&mut rt.stdin(), &mut rt.stdout(), u64::MAX)?;
+    Ok(())
 }

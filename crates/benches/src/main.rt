@@ -4,7 +4,7 @@
 
 ghost use Rattle.std.specs.Prelude.{◌≤◌, ◌<◌};
 
-use libc::{STDIN_FILENO, STDOUT_FILENO};
+use std::io::{Read, Result, Write};
 
 // The most streams, and the bytes that are dropped at once.
 const STREAMS: usize = 100000;
@@ -12,11 +12,11 @@ const STREAMS: usize = 100000;
 const DROPPED: u64 = 4096;
 
 // Reads so many bytes of the input and drops them. Answers how many there were.
-fn drop_some(asked: usize) -> usize
+fn drop_some<R: Read>(reader: &mut R, asked: usize) -> Result<usize>
     requires { asked ≤ 4096 }
 {
-    let mut buffer = io::buffer();
-    io::read_full(STDIN_FILENO, &mut buffer[..asked])
+    let mut buffer = [0u8; DROPPED as usize];
+    reading::read_full(reader, &mut buffer[..asked])
 }
 
 // How many of some bytes are dropped at once.
@@ -31,41 +31,45 @@ fn at_once(left: u64) -> usize
 }
 
 // Drops so many bytes of the input, or as many as there are.
-fn skip(count: u64) {
+fn skip<R: Read>(reader: &mut R, count: u64) -> Result<()> {
     let mut left = count;
     while 0 < left {
         let asked = at_once(left);
-        if drop_some(asked) < asked {
-            return;
+        if drop_some(reader, asked)? < asked {
+            return Ok(());
         }
         left = left - asked as u64;
     }
+    Ok(())
 }
 
 // Serves a stream of so many bytes. What a bad record left unread is dropped.
-fn serve_one(size: u64) {
-    let read = desk::serve(size);
+fn serve_one<R: Read, W: Write>(reader: &mut R, writer: &mut W, size: u64) -> Result<()> {
+    let read = desk::serve(reader, writer, size)?;
     if read < size {
-        skip(size - read);
+        skip(reader, size - read)?;
     }
-    io::write_all(STDOUT_FILENO, b"--\n");
+    writer.write_all(b"--\n")
 }
 
 // Serves the next stream. Answers whether there was one.
-fn next() -> bool {
+fn next<R: Read, W: Write>(reader: &mut R, writer: &mut W) -> Result<bool> {
     let mut head = [0u8; 4];
-    let got = io::read_full(STDIN_FILENO, &mut head);
+    let got = reading::read_full(reader, &mut head)?;
     if got < 4 {
-        return false;
+        return Ok(false);
     }
-    serve_one(words::read32(&head, 0) as u64);
-    true
+    serve_one(reader, writer, words::read32(&head, 0) as u64)?;
+    Ok(true)
 }
 
-fn main() {
-    for i in 0..STREAMS {
-        if !next() {
-            return;
+fn main(rt: HostRuntime) -> Result<()> {
+    let mut reader = rt.stdin();
+    let mut writer = rt.stdout();
+    for _ in 0..STREAMS {
+        if !next(&mut reader, &mut writer)? {
+            return Ok(());
         }
     }
+    Ok(())
 }

@@ -1,9 +1,9 @@
-// Serves a stream of the bench's records: reads it from standard input, and prints a line for each record. Document 01, "The bench program".
+// Serves a stream of the bench's records: reads it from a reader, and prints a line for each record. Document 01, "The bench program".
 // What the records do and the lines that they give stand in `turns`. Here they are only read, handed on and printed.
 
 #![tactic(auto)]
 
-ghost use Rattle.std.specs.Prelude.{◌≡◌, ◌+◌, ◌≤◌, not, length, take, drop, nat_lt};
+ghost use Rattle.std.specs.Prelude.{◌≡◌, ◌+◌, ◌≤◌, not, length, take, drop, nat_lt, IfOk};
 ghost use Rattle.limits.specs.Limits.{ENTRIES, RING-BYTES};
 ghost use Rattle.laws.specs.Test.{both};
 ghost use Rattle.records.specs.Records.{MOST};
@@ -11,8 +11,8 @@ ghost use Rattle.records.specs.Card.{SEND-BYTES};
 ghost use Rattle.lines.specs.Lines.{LINE};
 ghost use Rattle.desk.specs.Desk.{Held, Kept, is_cut, cut_text};
 
-use libc::{STDIN_FILENO, STDOUT_FILENO};
 use limits::ENTRIES;
+use std::io::{Read, Result, Write};
 
 // The bytes of the input that are held at once, and the most that a record has.
 const INPUT: usize = 0x2_0000;
@@ -54,38 +54,38 @@ fn move_down(buffer: &mut [u8], from: usize, count: usize)
 }
 
 // The buffer is filled behind the unread bytes. A read that brings less than asked is the last.
-fn refill(buffer: &mut [u8], input: Input) -> Input
+fn refill<R: Read>(reader: &mut R, buffer: &mut [u8], input: Input) -> Result<Input>
     requires { Held input buffer.old }
-    ensures { Held result buffer.new × Kept input buffer.old result buffer.new }
+    ensures { IfOk result (λ next. Held next buffer.new × Kept input buffer.old next buffer.new) }
 {
     let kept = input.to - input.from;
     move_down(buffer, input.from, kept);
     let asked = least(buffer.len() - kept, input.left);
-    let got = io::read_full(STDIN_FILENO, &mut buffer[kept..kept + asked]);
+    let got = reading::read_full(reader, &mut buffer[kept..kept + asked])?;
     let mut left = 0;
     if got == asked {
         left = input.left - got as u64;
     }
-    Input {
+    Ok(Input {
         from: 0,
         to: kept + got,
         read: std::num::wrapping_add_u64(input.read, got as u64),
         left,
-    }
+    })
 }
 
 // The input with a whole record in the buffer, or with all that there is. The unread bytes stay in front.
-fn filled(buffer: &mut [u8], input: Input) -> Input
+fn filled<R: Read>(reader: &mut R, buffer: &mut [u8], input: Input) -> Result<Input>
     requires { Held input buffer.old }
-    ensures { Held result buffer.new × Kept input buffer.old result buffer.new }
+    ensures { IfOk result (λ next. Held next buffer.new × Kept input buffer.old next buffer.new) }
 {
     if input.left == 0 {
-        return input;
+        return Ok(input);
     }
     if RECORD <= input.to - input.from {
-        return input;
+        return Ok(input);
     }
-    refill(buffer, input)
+    refill(reader, buffer, input)
 }
 
 // The input behind the records that were served.
@@ -103,10 +103,10 @@ fn past(input: Input, end: usize) -> Input
 // ---- output
 
 // What was gathered is written.
-fn flush(out: &[u8], at: usize)
+fn flush<W: Write>(writer: &mut W, out: &[u8], at: usize) -> Result<()>
     requires { at ≤ length out.now }
 {
-    io::write_all(STDOUT_FILENO, &out[..at]);
+    writer.write_all(&out[..at])
 }
 
 // The line of a record that is cut short, if there is one. Answers its length.
@@ -138,8 +138,10 @@ fn is_on(count: u64, next: u64, ended: bool) -> bool
     count < next
 }
 
-// Serves a stream on lent memory. Answers how many bytes it has read.
-fn serve_on(
+// Serves a stream on lent memory. Answers how many bytes it has read. A read or a write that fails ends it with that error.
+fn serve_on<R: Read, W: Write>(
+    reader: &mut R,
+    writer: &mut W,
     limit: u64,
     buffer: &mut [u8],
     out: &mut [u8],
@@ -152,7 +154,7 @@ fn serve_on(
     ids: &mut [u16],
     froms: &mut [u16],
     sizes: &mut [u16],
-) -> u64
+) -> Result<u64>
     requires { (LINE ≤ length out.old) × (length rx.old ≡ RING-BYTES) × (length tx.old ≡ SEND-BYTES) × (length addresses.now ≡ ENTRIES) × (length offsets.old ≡ ENTRIES) × (length lengths.old ≡ ENTRIES) × (MOST ≤ length pools.old) × (MOST ≤ length ids.old) × (MOST ≤ length froms.old) × (MOST ≤ length sizes.old) }
 {
     let mut run = turns::first();
@@ -165,7 +167,7 @@ fn serve_on(
     let mut count = 0;
     while is_on(count, run.count, run.ended) {
         count = run.count;
-        input = filled(buffer, input);
+        input = filled(reader, buffer, input)?;
         let from = input.from;
         let to = input.to;
         run.from = from;
@@ -173,16 +175,16 @@ fn serve_on(
         run = turns::serve(
             buffer, to, out, run, rx, tx, addresses, offsets, lengths, pools, ids, froms, sizes,
         );
-        flush(out, run.at);
+        flush(writer, out, run.at)?;
         input = past(input, run.from);
     }
     let at = put_cut(out, count, run.ended, buffer, input.from, input.to);
-    flush(out, at);
-    input.read
+    flush(writer, out, at)?;
+    Ok(input.read)
 }
 
-// Serves a stream of at most so many bytes. Answers how many bytes it has read.
-pub fn serve(limit: u64) -> u64 {
+// Serves a stream of at most so many bytes. Answers how many bytes it has read. A read or a write that fails ends it with that error.
+pub fn serve<R: Read, W: Write>(reader: &mut R, writer: &mut W, limit: u64) -> Result<u64> {
     let mut buffer = [0u8; INPUT];
     let mut out = [0u8; OUTPUT];
     let mut rx = [0u8; records::RING_BYTES];
@@ -195,6 +197,8 @@ pub fn serve(limit: u64) -> u64 {
     let mut froms = [0u16; records::MOST];
     let mut sizes = [0u16; records::MOST];
     serve_on(
+        reader,
+        writer,
         limit,
         &mut buffer,
         &mut out,

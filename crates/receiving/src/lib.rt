@@ -38,6 +38,7 @@ fn with_receive(
 }
 
 // Whether the receive ring can start.
+#[tactic(auto, unfolding(rules::specs::Refusals::start_verdict))]
 pub fn start_verdict(account: Account, q: usize, ring: &[u8], addresses: &[u64]) -> Verdict
     requires { sound account ≡ true }
     ensures { result ≡ start_verdict account q ring.now addresses.now }

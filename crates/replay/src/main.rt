@@ -4,6 +4,7 @@
 #![tactic(auto)]
 
 use replay_calls::KEPT;
+use std::io::Result;
 
 // The bytes of packet memory.
 const MEMORY: usize = 0x40_0000;
@@ -13,7 +14,7 @@ fn blank() -> [u8; KEPT + MEMORY] {
     [0; KEPT + MEMORY]
 }
 
-fn main() {
+fn main(rt: HostRuntime) -> Result<()> {
     let mut bytes = blank();
-    replay_run::run(&mut bytes);
+    replay_run::run(&mut rt.stdin(), &mut rt.stdout(), &mut bytes)
 }

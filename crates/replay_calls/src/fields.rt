@@ -5,6 +5,7 @@ use pool::FreeStack;
 use replay_lines::{mixed, show, show_numbers};
 use replay_records::{MOST, byte, half, of_byte, of_half, word};
 use rules::Account;
+use std::io::{Result, Write};
 use std::num::wrapping_add_u64;
 
 pub const FREE_IDS: u64 = 8;
@@ -163,51 +164,59 @@ fn with_place(mut account: Account, field: u64, place: usize, n: u64) -> Account
 // ---- records
 
 // The digest of so many places of an array, which are printed too if asked for.
-fn read(account: Account, field: u64, first: u64, count: u64, each: bool) -> u64 {
+fn read<W: Write>(
+    output: &mut W,
+    account: Account,
+    field: u64,
+    first: u64,
+    count: u64,
+    each: bool,
+) -> Result<u64> {
     let mut digest = 0;
     for i in 0..count {
         let n = held(account, field, wrapping_add_u64(first, i) as usize);
         if each {
-            show(n);
+            show(output, n)?;
         }
         digest = mixed(digest, n);
     }
-    digest
+    Ok(digest)
 }
 
 // The digest of a whole array.
-fn show_digest(account: Account, field: u64) {
-    show(read(account, field, 0, places_of(field), false));
+fn show_digest<W: Write>(output: &mut W, account: Account, field: u64) -> Result<()> {
+    let digest = read(output, account, field, 0, places_of(field), false)?;
+    show(output, digest)
 }
 
 // Shows the numbers, digests of the long arrays, and the indices of the send queues.
-pub fn tell(account: Account) -> Account {
+pub fn tell<W: Write>(output: &mut W, account: Account) -> Result<Account> {
     let numbers = numbers_of(account);
-    show_numbers(&numbers);
-    show_digest(account, FREE_IDS);
-    show_digest(account, HANDS);
-    show_digest(account, SLOT_IDS);
-    show_digest(account, SENT_IDS);
-    read(account, CLEAN, 0, SENDS as u64, true);
-    read(account, TX, 0, SENDS as u64, true);
-    account
+    show_numbers(output, &numbers)?;
+    show_digest(output, account, FREE_IDS)?;
+    show_digest(output, account, HANDS)?;
+    show_digest(output, account, SLOT_IDS)?;
+    show_digest(output, account, SENT_IDS)?;
+    read(output, account, CLEAN, 0, SENDS as u64, true)?;
+    read(output, account, TX, 0, SENDS as u64, true)?;
+    Ok(account)
 }
 
 // Shows places of an array.
-pub fn tell_array(n: [u64; MOST], account: Account) -> Account {
-    read(account, n[0], n[1], n[2], true);
-    account
+pub fn tell_array<W: Write>(output: &mut W, n: [u64; MOST], account: Account) -> Result<Account> {
+    read(output, account, n[0], n[1], n[2], true)?;
+    Ok(account)
 }
 
 // Forges a place of a field.
-pub fn forge(n: [u64; MOST], account: Account) -> Account {
+pub fn forge<W: Write>(output: &mut W, n: [u64; MOST], account: Account) -> Result<Account> {
     let field = n[0] as usize;
     let mut numbers = numbers_of(account);
-    show(n[0]);
-    show(n[1]);
+    show(output, n[0])?;
+    show(output, n[1])?;
     if field < 8 {
         numbers[field] = n[2];
-        return with_numbers(account, numbers);
+        return Ok(with_numbers(account, numbers));
     }
-    with_place(account, n[0], n[1] as usize, n[2])
+    Ok(with_place(account, n[0], n[1] as usize, n[2]))
 }

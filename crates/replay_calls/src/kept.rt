@@ -5,6 +5,7 @@ ghost use Rattle.std.specs.Prelude.{◌+◌, ◌≤◌, length};
 use limits::SLOT_BYTES;
 use replay_lines::{mixed, show, show_count};
 use replay_records::{Body, MOST, byte, half, number_at, word};
+use std::io::{Result, Write};
 use std::num::{wrapping_add_u64, wrapping_add_usize, wrapping_sub_u64};
 
 // The bytes of a ring, and the places of each list and of the addresses: more than a u16 can ask for, so that each length it can is lent.
@@ -165,7 +166,13 @@ pub fn store(bytes: &mut [u8], at: usize, width: usize, n: u64) {
 }
 
 // Sets places to the values of a record, which stand behind its numbers.
-pub fn set(kind: u16, body: Body, rest: &[u8], bytes: &mut [u8]) {
+pub fn set<W: Write>(
+    output: &mut W,
+    kind: u16,
+    body: Body,
+    rest: &[u8],
+    bytes: &mut [u8],
+) -> Result<()> {
     let n = body.numbers;
     let part = part_of(kind, n, body.count, bytes.len());
     let width = part.width;
@@ -177,11 +184,11 @@ pub fn set(kind: u16, body: Body, rest: &[u8], bytes: &mut [u8]) {
         at = wrapping_add_usize(at, width);
         from = wrapping_add_usize(from, unit);
     }
-    show_count(part.count);
+    show_count(output, part.count)
 }
 
 // Shows the places that a record names, or a digest of them.
-pub fn tell(kind: u16, body: Body, bytes: &[u8]) {
+pub fn tell<W: Write>(output: &mut W, kind: u16, body: Body, bytes: &[u8]) -> Result<()> {
     let n = body.numbers;
     let part = part_of(kind, n, 0, bytes.len());
     let width = part.width;
@@ -191,12 +198,13 @@ pub fn tell(kind: u16, body: Body, bytes: &[u8]) {
     for i in 0..part.count {
         let held = number_at(bytes, at, width);
         if each {
-            show(held);
+            show(output, held)?;
         }
         digest = mixed(digest, held);
         at = wrapping_add_usize(at, width);
     }
     if !each {
-        show(digest);
+        show(output, digest)?;
     }
+    Ok(())
 }

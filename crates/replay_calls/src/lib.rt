@@ -6,7 +6,7 @@
 mod fields;
 mod kept;
 mod loans;
-mod packets;
+mod packet_calls;
 
 pub use fields::blank;
 pub use kept::{KEPT, ROOM};
@@ -14,6 +14,7 @@ pub use loans::unpack_addresses;
 use replay_lines::{begin, end};
 use replay_records::Body;
 use rules::Account;
+use std::io::{Result, Write};
 
 // An account after a record, and whether the record was good.
 #[derive(Drop)]
@@ -40,46 +41,54 @@ fn is_there(kind: u16, body: Body, bytes: usize) -> bool {
 }
 
 // A good record of a kind, but for its line's number and end.
-fn played(kind: u16, body: Body, rest: &[u8], account: Account, bytes: &mut [u8]) -> Account {
+fn played<W: Write>(
+    output: &mut W,
+    kind: u16,
+    body: Body,
+    rest: &[u8],
+    account: Account,
+    bytes: &mut [u8],
+) -> Result<Account> {
     let n = body.numbers;
     match kind {
-        4 | 10 | 11 | 12 => loans::call(kind, n, account, bytes),
-        7 | 8 | 9 => packets::call_in_memory(kind, n, account, bytes),
+        4 | 10 | 11 | 12 => loans::call(output, kind, n, account, bytes),
+        7 | 8 | 9 => packet_calls::call_in_memory(output, kind, n, account, bytes),
         20 | 21 | 22 | 23 => {
-            kept::set(kind, body, rest, bytes);
-            account
+            kept::set(output, kind, body, rest, bytes)?;
+            Ok(account)
         }
-        24 => fields::forge(n, account),
+        24 => fields::forge(output, n, account),
         30 | 31 | 32 | 35 => {
-            kept::tell(kind, body, bytes);
-            account
+            kept::tell(output, kind, body, bytes)?;
+            Ok(account)
         }
-        33 => fields::tell(account),
-        34 => fields::tell_array(n, account),
-        _ => packets::call(kind, n, account),
+        33 => fields::tell(output, account),
+        34 => fields::tell_array(output, n, account),
+        _ => packet_calls::call(output, kind, n, account),
     }
 }
 
 // A record of a kind: its line, unless it is not good. Of one that is not good nothing is printed and nothing changed.
-pub fn play(
+pub fn play<W: Write>(
+    output: &mut W,
     number: u64,
     kind: u16,
     body: Body,
     rest: &[u8],
     account: Account,
     bytes: &mut [u8],
-) -> Next {
+) -> Result<Next> {
     if !is_there(kind, body, bytes.len()) {
-        return Next {
+        return Ok(Next {
             account,
             good: false,
-        };
+        });
     }
-    begin(number, kind);
-    let next = played(kind, body, rest, account, bytes);
-    end();
-    Next {
+    begin(output, number, kind)?;
+    let next = played(output, kind, body, rest, account, bytes)?;
+    end(output)?;
+    Ok(Next {
         account: next,
         good: true,
-    }
+    })
 }

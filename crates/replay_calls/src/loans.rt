@@ -5,48 +5,49 @@ use crate::kept::{ADDRESSES, IDS, LENGTHS, OFFSETS, POOLS, RINGS, ROOM, store};
 use replay_lines::{show_count, show_counts, show_refusal, show_stop, show_tail, show_verdict};
 use replay_records::{MOST, half, number_at, of_half, of_word, word};
 use rules::{Account, Batch, Ended, Received, Sent, Started};
+use std::io::{Result, Write};
 use std::num::wrapping_add_usize;
 
 // ---- answers
 
-fn batched(answer: Batch) -> Account {
+fn batched<W: Write>(output: &mut W, answer: Batch) -> Result<Account> {
     let verdict = answer.verdict;
-    show_verdict(verdict);
-    show_count(answer.count);
-    show_counts(answer.account);
-    answer.account
+    show_verdict(output, verdict)?;
+    show_count(output, answer.count)?;
+    show_counts(output, answer.account)?;
+    Ok(answer.account)
 }
 
-fn started(answer: Started) -> Account {
+fn started<W: Write>(output: &mut W, answer: Started) -> Result<Account> {
     let verdict = answer.verdict;
     let tail = answer.tail;
-    show_verdict(verdict);
-    show_tail(tail);
-    show_counts(answer.account);
-    answer.account
+    show_verdict(output, verdict)?;
+    show_tail(output, tail)?;
+    show_counts(output, answer.account)?;
+    Ok(answer.account)
 }
 
-fn received(answer: Received) -> Account {
+fn received<W: Write>(output: &mut W, answer: Received) -> Result<Account> {
     let ended = answer.ended;
     let tail = answer.tail;
     match ended {
-        Ended::Refused(why) => show_refusal(why),
-        Ended::Stopped(stop) => show_stop(stop),
+        Ended::Refused(why) => show_refusal(output, why)?,
+        Ended::Stopped(stop) => show_stop(output, stop)?,
     }
-    show_count(answer.count);
-    show_tail(tail);
-    show_counts(answer.account);
-    answer.account
+    show_count(output, answer.count)?;
+    show_tail(output, tail)?;
+    show_counts(output, answer.account)?;
+    Ok(answer.account)
 }
 
-fn sent(answer: Sent) -> Account {
+fn sent<W: Write>(output: &mut W, answer: Sent) -> Result<Account> {
     let verdict = answer.verdict;
     let tail = answer.tail;
-    show_verdict(verdict);
-    show_count(answer.count);
-    show_tail(tail);
-    show_counts(answer.account);
-    answer.account
+    show_verdict(output, verdict)?;
+    show_count(output, answer.count)?;
+    show_tail(output, tail)?;
+    show_counts(output, answer.account)?;
+    Ok(answer.account)
 }
 
 // ---- lists out of the bytes that are kept, and back
@@ -136,7 +137,8 @@ fn lists_at(kind: u16) -> usize
 }
 
 // A batch, a start, a receive or a send.
-fn called(
+fn called<W: Write>(
+    output: &mut W,
     kind: u16,
     n: [u64; MOST],
     account: Account,
@@ -146,30 +148,40 @@ fn called(
     ids: &mut [u16],
     offsets: &mut [u16],
     lengths: &mut [u16],
-) -> Account {
+) -> Result<Account> {
     let first = n[0] as usize;
     match kind {
-        4 => batched(calls::batch(account, first, n[1] as usize, pools, ids, offsets, lengths)),
-        10 => started(calls::start(account, first, ring, addresses)),
-        11 => received(calls::receive(
-            account,
-            first,
-            ring,
-            addresses,
-            n[4] as usize,
-            pools,
-            ids,
-            offsets,
-            lengths,
-        )),
-        _ => sent(calls::send(
-            account, first, ring, addresses, pools, ids, offsets, lengths,
-        )),
+        4 => batched(
+            output,
+            calls::batch(account, first, n[1] as usize, pools, ids, offsets, lengths),
+        ),
+        10 => started(output, calls::start(account, first, ring, addresses)),
+        11 => received(
+            output,
+            calls::receive(
+                account,
+                first,
+                ring,
+                addresses,
+                n[4] as usize,
+                pools,
+                ids,
+                offsets,
+                lengths,
+            ),
+        ),
+        _ => sent(
+            output,
+            calls::send(
+                account, first, ring, addresses, pools, ids, offsets, lengths,
+            ),
+        ),
     }
 }
 
 // The same, on the first bytes of a ring. The lists go back into the bytes after it.
-fn on_ring(
+fn on_ring<W: Write>(
+    output: &mut W,
     kind: u16,
     n: [u64; MOST],
     account: Account,
@@ -179,19 +191,20 @@ fn on_ring(
     ids: &mut [u16],
     offsets: &mut [u16],
     lengths: &mut [u16],
-) -> Account {
+) -> Result<Account> {
     let first = least((n[1] % RINGS) as usize * ROOM, bytes.len());
     let last = first + least(n[2] as usize, bytes.len() - first);
     let ring = &mut bytes[first..last];
     let next = called(
-        kind, n, account, ring, addresses, pools, ids, offsets, lengths,
-    );
+        output, kind, n, account, ring, addresses, pools, ids, offsets, lengths,
+    )?;
     pack(bytes, pools, ids, offsets, lengths);
-    next
+    Ok(next)
 }
 
 // The same, on as much of the addresses and lists as is lent.
-fn on_lists(
+fn on_lists<W: Write>(
+    output: &mut W,
     kind: u16,
     n: [u64; MOST],
     account: Account,
@@ -201,15 +214,21 @@ fn on_lists(
     ids: &mut [u16],
     offsets: &mut [u16],
     lengths: &mut [u16],
-) -> Account {
+) -> Result<Account> {
     unpack(bytes, addresses, pools, ids, offsets, lengths);
     on_ring(
-        kind, n, account, bytes, addresses, pools, ids, offsets, lengths,
+        output, kind, n, account, bytes, addresses, pools, ids, offsets, lengths,
     )
 }
 
 // The same: what the record lends is cut here.
-pub fn call(kind: u16, n: [u64; MOST], account: Account, bytes: &mut [u8]) -> Account {
+pub fn call<W: Write>(
+    output: &mut W,
+    kind: u16,
+    n: [u64; MOST],
+    account: Account,
+    bytes: &mut [u8],
+) -> Result<Account> {
     let at = lists_at(kind);
     let bank_end = half(n[3]) as usize;
     let pools_end = half(n[at]) as usize;
@@ -222,6 +241,7 @@ pub fn call(kind: u16, n: [u64; MOST], account: Account, bytes: &mut [u8]) -> Ac
     let mut offsets = [0u16; ROOM];
     let mut lengths = [0u16; ROOM];
     on_lists(
+        output,
         kind,
         n,
         account,

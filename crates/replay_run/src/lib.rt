@@ -1,15 +1,18 @@
-// Reads the records of standard input and plays them, each with its line, to the first that is not good. docs/REPLAY.md has the format.
+// Reads the records of an input and plays them, each with its line, to the first that is not good. docs/REPLAY.md has the format.
 
 #![tactic(auto)]
 
-ghost use Rattle.std.specs.Prelude.{◌≤◌, length};
+ghost use Rattle.std.specs.Prelude.{◌≤◌, length, IfOk};
 
-use libc::STDIN_FILENO;
 use replay_calls::{Next, ROOM};
 use replay_lines::bad;
 use replay_records::{Body, half};
 use replay_registers::Kept;
 use rules::Account;
+use std::io::{Read, Result, Write};
+
+// The most bytes of a body that are held: more than a u16 can ask for.
+const BODY: usize = 0x1_0000;
 
 // The first kind that makes a register call.
 const FIRST_REGISTER: u16 = 40;
@@ -48,66 +51,87 @@ fn broken(found: bool) -> Record
 }
 
 // Reads a body into the first bytes of a buffer. One that the buffer can't hold is not whole.
-fn read_body(kind: u16, size: usize, buffer: &mut [u8]) -> Record
-    ensures { result.size ≤ length buffer.new }
+fn read_body<R: Read>(input: &mut R, kind: u16, size: usize, buffer: &mut [u8]) -> Result<Record>
+    ensures { IfOk result (λ body. body.size ≤ length buffer.new) }
 {
     if buffer.len() < size {
-        return broken(true);
+        return Ok(broken(true));
     }
-    let got = io::read_full(STDIN_FILENO, &mut buffer[0..size]);
+    let got = reading::read_full(input, &mut buffer[0..size])?;
     if got < size {
-        return broken(true);
+        return Ok(broken(true));
     }
-    Record {
+    Ok(Record {
         kind,
         size,
         found: true,
         whole: true,
-    }
+    })
 }
 
 // Reads a record, its body into the first bytes of a buffer.
-fn read(buffer: &mut [u8]) -> Record
-    ensures { result.size ≤ length buffer.new }
+fn read<R: Read>(input: &mut R, buffer: &mut [u8]) -> Result<Record>
+    ensures { IfOk result (λ body. body.size ≤ length buffer.new) }
 {
     let mut head = [0u8; 4];
-    let got = io::read_full(STDIN_FILENO, &mut head);
+    let got = reading::read_full(input, &mut head)?;
     if got < 4 {
-        return broken(0 < got);
+        return Ok(broken(0 < got));
     }
     let size = words::read16(&head, 0) as usize;
     let kind = words::read16(&head, 2);
     if size < 2 {
-        return broken(true);
+        return Ok(broken(true));
     }
-    read_body(kind, size - 2, buffer)
+    read_body(input, kind, size - 2, buffer)
 }
 
 // ---- playing
 
 // A set-up, which is lent some addresses.
-fn set_up(number: u64, registers: Kept, body: Body, bytes: &[u8], addresses: &mut [u64]) -> Kept {
+fn set_up<W: Write>(
+    output: &mut W,
+    number: u64,
+    registers: Kept,
+    body: Body,
+    bytes: &[u8],
+    addresses: &mut [u64],
+) -> Result<Kept> {
     replay_calls::unpack_addresses(bytes, addresses);
-    replay_registers::play(number, SET_UP, body, registers, addresses)
+    replay_registers::play(output, number, SET_UP, body, registers, addresses)
 }
 
 // A record of the registers.
-fn play_registers(number: u64, kind: u16, registers: Kept, body: Body, bytes: &[u8]) -> Kept {
+fn play_registers<W: Write>(
+    output: &mut W,
+    number: u64,
+    kind: u16,
+    registers: Kept,
+    body: Body,
+    bytes: &[u8],
+) -> Result<Kept> {
     if kind == SET_UP {
         let n = body.numbers;
         let count = half(n[7]) as usize;
         let mut addresses = [0u64; ROOM];
-        return set_up(number, registers, body, bytes, &mut addresses[0..count]);
+        return set_up(
+            output,
+            number,
+            registers,
+            body,
+            bytes,
+            &mut addresses[0..count],
+        );
     }
-    replay_registers::play(number, kind, body, registers, &[0u64; 0])
+    replay_registers::play(output, number, kind, body, registers, &[0u64; 0])
 }
 
 // After a record: the line of one that is not good.
-fn settled(number: u64, held: Held) -> Held {
+fn settled<W: Write>(output: &mut W, number: u64, held: Held) -> Result<Held> {
     if !held.good {
-        bad(number);
+        bad(output, number)?;
     }
-    held
+    Ok(held)
 }
 
 // After a record that may have changed the account.
@@ -126,37 +150,52 @@ fn with_registers(mut held: Held, next: Kept) -> Held {
 }
 
 // Plays a record with its body, also with a line where it is not good.
-fn play(number: u64, mut held: Held, kind: u16, rest: &[u8], bytes: &mut [u8]) -> Held {
+fn play<W: Write>(
+    output: &mut W,
+    number: u64,
+    mut held: Held,
+    kind: u16,
+    rest: &[u8],
+    bytes: &mut [u8],
+) -> Result<Held> {
     let body = replay_records::body_of(kind, rest);
     if !body.good {
         held.good = false;
-        return settled(number, held);
+        return settled(output, number, held);
     }
     if FIRST_REGISTER <= kind {
-        let next = play_registers(number, kind, held.registers, body, bytes);
-        return settled(number, with_registers(held, next));
+        let next = play_registers(output, number, kind, held.registers, body, bytes)?;
+        return settled(output, number, with_registers(held, next));
     }
-    let next = replay_calls::play(number, kind, body, rest, held.account, bytes);
-    settled(number, with_account(held, next))
+    let next = replay_calls::play(output, number, kind, body, rest, held.account, bytes)?;
+    settled(output, number, with_account(held, next))
 }
 
 // Reads a record and plays it. At the end of the input there is no line and nothing to go on with.
-fn turn(number: u64, mut held: Held, buffer: &mut [u8], bytes: &mut [u8]) -> Held {
-    let record = read(buffer);
+fn turn<R: Read, W: Write>(
+    input: &mut R,
+    output: &mut W,
+    number: u64,
+    mut held: Held,
+    buffer: &mut [u8],
+    bytes: &mut [u8],
+) -> Result<Held> {
+    let record = read(input, buffer)?;
     let size = record.size;
     held.good = false;
     if record.whole {
-        return play(number, held, record.kind, &buffer[0..size], bytes);
+        return play(output, number, held, record.kind, &buffer[0..size], bytes);
     }
     if record.found {
-        bad(number);
+        bad(output, number)?;
     }
-    held
+    Ok(held)
 }
 
-// Plays standard input, to the first record that is not good. The bytes are what is kept beside the account, packet memory last.
-pub fn run(bytes: &mut [u8]) {
-    let mut buffer = io::large_buffer();
+// Plays the input, to the first record that is not good, and prints to the output. The bytes are what is kept beside the account, packet memory last.
+// A read or a write that fails ends it with that error.
+pub fn run<R: Read, W: Write>(input: &mut R, output: &mut W, bytes: &mut [u8]) -> Result<()> {
+    let mut buffer = [0u8; BODY];
     let mut held = Held {
         account: replay_calls::blank(),
         registers: replay_registers::blank(),
@@ -164,10 +203,11 @@ pub fn run(bytes: &mut [u8]) {
     };
     let mut number: u64 = 1;
     while number < u64::MAX {
-        held = turn(number, held, &mut buffer, bytes);
+        held = turn(input, output, number, held, &mut buffer, bytes)?;
         if !held.good {
-            return;
+            return Ok(());
         }
         number += 1;
     }
+    Ok(())
 }
