@@ -8,8 +8,8 @@ use Rattle.desk.proofs.filled.Goals as goal
 all-kept : (i : Input) (buffer : List ℕ) → Kept i buffer i buffer
 all-kept i buffer = take-take (i.to - i.from) (i.to - i.from) (drop i.from buffer) (omega arith)
 
-pub returns-then-input-eq0 : goal.returns-then-input-eq0
-returns-then-input-eq0 g c = (c.requires, all-kept c.args.input _)
+pub returns-then-input-eq0-clause-ok : goal.returns-then-input-eq0-clause-ok
+returns-then-input-eq0-clause-ok g c = (c.requires, all-kept c.args.input _)
 
-pub returns-then-input-ge-RECORD : goal.returns-then-input-ge-RECORD
-returns-then-input-ge-RECORD g c = (c.requires, all-kept c.args.input _)
+pub returns-then-input-ge-RECORD-clause-ok : goal.returns-then-input-ge-RECORD-clause-ok
+returns-then-input-ge-RECORD-clause-ok g c = (c.requires, all-kept c.args.input _)

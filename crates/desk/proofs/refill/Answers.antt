@@ -3,8 +3,8 @@ use Rattle.std.proofs.Common.{◌+◌, ◌-◌, ◌∙◌, arith, rules}
 use Rattle.desk.proofs.Moved.{in-front}
 use Rattle.desk.proofs.refill.Goals as goal
 
-pub returns : goal.returns
-returns g c =
+pub returns-clause-ok : goal.returns-clause-ok
+returns-clause-ok g c =
     let kept = c.args.input.to - c.args.input.from in
     let got = c.in_ok-got.got in (
       search rules,

@@ -47,4 +47,3 @@ loop-count-preserved g c =
       few = omega (arith, run.type_inv);
       counted = i.few;
     }
-
