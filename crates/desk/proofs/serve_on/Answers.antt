@@ -14,8 +14,8 @@ serve-run-requires g c =
     let p = c.requires in
     let i = c.loop-count.invariant in
     let k = i.kept in (
-      c.in_ok-input.ensures.0.0,
-      c.in_ok-input.ensures.0.1,
+      c.in_ok-input.ensures.ok.0.0,
+      c.in_ok-input.ensures.ok.0.1,
       omega arith,
       i.good,
       record {
@@ -43,7 +43,7 @@ loop-count-preserved g c =
       room = a.out ∙ i.room;
       kept = same_more (record { rx = a.rx; tx = a.tx; offsets = a.offsets; lengths = a.lengths; pools = a.pools; ids = a.ids; froms = a.froms; sizes = a.sizes }) i.kept;
       good = run.ensures.keeps.4;
-      held = (omega (arith, c.past-input.ensures, run.ensures.keeps.1), omega (arith, c.past-input.ensures.1, c.in_ok-input.ensures.0.1));
+      held = (omega (arith, c.past-input.ensures, run.ensures.keeps.1), omega (arith, c.past-input.ensures.1, c.in_ok-input.ensures.ok.0.1));
       few = omega (arith, run.type_inv);
       counted = i.few;
     }
