@@ -1,5 +1,5 @@
 -- What holds between two reads: all that is lent keeps its length, the account is sound, and the input is within its bounds.
-use Rattle.std.proofs.Common.{◌≡◌, ℕ, ◌-◌, ◌^◌, ◌<◌, true, List, length, refl, ap, ◌∙◌, arith}
+use Rattle.std.proofs.Common.{◌≡◌, ℕ, ◌^◌, ◌<◌, true, List, length, refl, ap, ◌∙◌}
 use Rattle.rules.specs.Sound.{sound}
 use Rattle.turns.specs.declared.Run.{Run}
 use Rattle.desk.specs.declared.Input.{Input}

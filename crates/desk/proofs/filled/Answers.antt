@@ -1,5 +1,5 @@
 -- `desk::filled` meets its contract: where nothing is read, the unread bytes are all that there are. Assumes nothing.
-use Rattle.std.proofs.Common.{ℕ, ◌-◌, List, drop, arith, take-take, rules}
+use Rattle.std.proofs.Common.{ℕ, ◌-◌, List, drop, arith, take-take}
 use Rattle.desk.specs.declared.Input.{Input}
 use Rattle.desk.specs.Desk.{Kept}
 use Rattle.desk.proofs.filled.Goals as goal

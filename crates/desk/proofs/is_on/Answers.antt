@@ -1,5 +1,4 @@
 -- `desk::is_on` meets its contract: the tests in order. Assumes nothing.
-use Rattle.std.proofs.Common.{rules}
 use Rattle.desk.proofs.is_on.Goals as goal
 
 pub returns : goal.returns

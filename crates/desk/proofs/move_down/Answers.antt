@@ -1,5 +1,5 @@
 -- `desk::move_down` meets its contract: what is moved already stands in front, and the rest is as it was. Assumes nothing.
-use Rattle.std.proofs.Common.{◌≡◌, ◌-◌, ◌≤◌, length, take, drop, refl, arith, length-set}
+use Rattle.std.proofs.Common.{◌≡◌, refl, arith, length-set}
 use Rattle.desk.proofs.Moved.{moved, left}
 use Rattle.desk.proofs.move_down.Goals as goal
 

@@ -1,5 +1,5 @@
 -- `desk::put_cut` meets its contract: the tests in order. Assumes nothing.
-use Rattle.std.proofs.Common.{arith, rules, le-ltb, lt-ltb, eq-eqb, ne_eqb}
+use Rattle.std.proofs.Common.{arith, le-ltb, lt-ltb, eq-eqb, ne_eqb}
 use Rattle.desk.specs.Desk.{is_cut}
 use Rattle.desk.proofs.put_cut.Goals as goal
 

@@ -1,11 +1,7 @@
 -- `desk::serve_on` is safe and ends: what holds between two reads is `Standing`, and the measure is the records that can still be counted.
 -- Assumes nothing.
-use Rattle.std.proofs.Common.{◌-◌, ◌^◌, ◌<◌, not, sym, refl, ◌∙◌, arith, rules, ltb-true}
-use Rattle.laws.proofs.Test.{both_right}
-use Rattle.rules.specs.Handles.{handles}
-use Rattle.tally.specs.Tally.{memory_as}
-use Rattle.stream.specs.Bench.{bench_as, Bench}
-use Rattle.desk.proofs.Standing.{lists, same, same_more, same_of, Standing, closer}
+use Rattle.std.proofs.Common.{◌∙◌, arith}
+use Rattle.desk.proofs.Standing.{same_more}
 use Rattle.desk.proofs.serve_on.Goals as goal
 
 -- what is lent is as long as it was

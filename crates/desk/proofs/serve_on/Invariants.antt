@@ -1,10 +1,6 @@
 -- `desk::serve_on` is safe and ends: what holds between two reads is `Standing`, and the measure is the records that can still be counted.
-use Rattle.std.proofs.Common.{◌-◌, ◌^◌, ◌<◌, not, sym, refl, ◌∙◌, arith, rules, ltb-true}
-use Rattle.laws.proofs.Test.{both_right}
-use Rattle.rules.specs.Handles.{handles}
-use Rattle.tally.specs.Tally.{memory_as}
-use Rattle.stream.specs.Bench.{bench_as, Bench}
-use Rattle.desk.proofs.Standing.{lists, same, same_more, same_of, Standing, closer}
+use Rattle.std.proofs.Common.{◌-◌, ◌^◌}
+use Rattle.desk.proofs.Standing.{lists, Standing}
 use Rattle.desk.proofs.serve_on.Given as goal
 
 abbrev pub invariant-loop-count : goal.invariant-loop-count
