@@ -50,18 +50,6 @@ same_more a b =
       sizes = a.sizes ∙ b.sizes;
     }
 
-abbrev Alike : List ℕ → List ℕ → Type 0
-Alike l k = length l ≡ length k
-
--- from what a call keeps, in the order in which it is lent the lists: the addresses stand among them
-pub same_of : {l k : Lists} {A B : Type 0}
-    → Alike l.rx k.rx × (Alike l.tx k.tx × (A × (Alike l.offsets k.offsets × (Alike l.lengths k.lengths
-    × (Alike l.pools k.pools × (Alike l.ids k.ids × (Alike l.froms k.froms × (Alike l.sizes k.sizes × B))))))))
-    → Same l k
-same_of kept =
-    let (rx, (tx, (addresses, (offsets, (lengths, (pools, (ids, (froms, (sizes, rest))))))))) = kept in
-    record { rx = rx; tx = tx; offsets = offsets; lengths = lengths; pools = pools; ids = ids; froms = froms; sizes = sizes }
-
 pub record Standing (buffer₀ out₀ : List ℕ) (lists₀ : Lists) (buffer out : List ℕ) (now : Lists) (run : Run) (input : Input) (count : ℕ) : Type 0 where
   pub whole : length buffer ≡ length buffer₀
   pub room : length out ≡ length out₀
@@ -70,7 +58,3 @@ pub record Standing (buffer₀ out₀ : List ℕ) (lists₀ : Lists) (buffer out
   pub held : Held input buffer
   pub few : run.count < 2 ^ 64
   pub counted : count < 2 ^ 64
-
--- a record that is counted is one fewer that can be
-pub closer : {n m : ℕ} → n < m → n < 2 ^ 64 → 2 ^ 64 - m < 2 ^ 64 - n
-closer more few = omega arith

@@ -3,7 +3,7 @@
 
 #![tactic(auto)]
 
-ghost use Rattle.std.specs.Prelude.{◌≡◌, ◌+◌, ◌≤◌, not, length, take, drop, nat_lt, IfOk};
+ghost use Rattle.std.specs.Prelude.{◌≡◌, ◌+◌, ◌-◌, ◌≤◌, not, length, take, drop, nat_lt, IfOk, OnErr};
 ghost use Rattle.limits.specs.Limits.{ENTRIES, RING-BYTES};
 ghost use Rattle.laws.specs.Test.{both};
 ghost use Rattle.records.specs.Records.{MOST};
@@ -53,10 +53,11 @@ fn move_down(buffer: &mut [u8], from: usize, count: usize)
     }
 }
 
-// The buffer is filled behind the unread bytes. A read that brings less than asked is the last.
+// The buffer is filled behind the unread bytes. A read that brings less than asked is the last. After an error the unread bytes stand in front.
 fn refill<R: Read>(reader: &mut R, buffer: &mut [u8], input: Input) -> Result<Input>
     requires { Held input buffer.old }
-    ensures { IfOk result (λ next. Held next buffer.new × Kept input buffer.old next buffer.new) }
+    ensures ok { IfOk result (λ next. Held next buffer.new × Kept input buffer.old next buffer.new) }
+    ensures err { OnErr result (take (input.to - input.from) buffer.new ≡ take (input.to - input.from) (drop input.from buffer.old)) }
 {
     let kept = input.to - input.from;
     move_down(buffer, input.from, kept);
@@ -74,10 +75,11 @@ fn refill<R: Read>(reader: &mut R, buffer: &mut [u8], input: Input) -> Result<In
     })
 }
 
-// The input with a whole record in the buffer, or with all that there is. The unread bytes stay in front.
+// The input with a whole record in the buffer, or with all that there is. The unread bytes stay in front, after an error too.
 fn filled<R: Read>(reader: &mut R, buffer: &mut [u8], input: Input) -> Result<Input>
     requires { Held input buffer.old }
-    ensures { IfOk result (λ next. Held next buffer.new × Kept input buffer.old next buffer.new) }
+    ensures ok { IfOk result (λ next. Held next buffer.new × Kept input buffer.old next buffer.new) }
+    ensures err { OnErr result (take (input.to - input.from) buffer.new ≡ take (input.to - input.from) (drop input.from buffer.old)) }
 {
     if input.left == 0 {
         return Ok(input);

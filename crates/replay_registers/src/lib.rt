@@ -10,6 +10,7 @@ use replay_lines::{begin, end};
 use replay_records::Body;
 use startup::State;
 use stats::Stats;
+use std::io::{Result, Write};
 use window::Window;
 
 // What the calls change: a start-up state, a window and the sums. Good: the last record was.
@@ -48,23 +49,30 @@ fn is_there(kind: u16, body: Body) -> bool {
 
 // Plays a record of a kind, lent the addresses that a set-up takes: its line, unless it is not good. Of one that is not good nothing is printed
 // and nothing changed.
-pub fn play(number: u64, kind: u16, body: Body, mut kept: Kept, addresses: &[u64]) -> Kept {
+pub fn play<W: Write>(
+    output: &mut W,
+    number: u64,
+    kind: u16,
+    body: Body,
+    mut kept: Kept,
+    addresses: &[u64],
+) -> Result<Kept> {
     let n = body.numbers;
     kept.good = is_there(kind, body);
     if !kept.good {
-        return kept;
+        return Ok(kept);
     }
-    begin(number, kind);
+    begin(output, number, kind)?;
     if kind < 50 {
-        let state = start_up::call(kind, n, kept.state, addresses);
+        let state = start_up::call(output, kind, n, kept.state, addresses)?;
         kept.state = state;
     } else if kind < 70 {
-        let stats = run_time::call(kind, n, kept.stats);
+        let stats = run_time::call(output, kind, n, kept.stats)?;
         kept.stats = stats;
     } else {
-        let window = rates::call(kind, n, kept.window);
+        let window = rates::call(output, kind, n, kept.window)?;
         kept.window = window;
     }
-    end();
-    kept
+    end(output)?;
+    Ok(kept)
 }

@@ -3,6 +3,7 @@ use plan::{Interrupts, Setup};
 use replay_lines::{mixed, show, show_action, show_numbers, show_whether, show_word};
 use replay_records::{MOST, word};
 use startup::State;
+use std::io::{Result, Write};
 
 // A state's fields: 0 map, 1 receive queues, 2 send queues, 3 W, 4 interrupts, 5 throttle rate, 6 ring addresses, 7 place, 8 made, 9 kept.
 const FIELDS: usize = 10;
@@ -24,7 +25,7 @@ fn interrupts(asked: bool, kind: u64) -> Interrupts {
     Interrupts::Off
 }
 
-fn set_up(n: [u64; MOST], addresses: &[u64]) -> State {
+fn set_up<W: Write>(output: &mut W, n: [u64; MOST], addresses: &[u64]) -> Result<State> {
     let begun = startup::set_up(
         n[0],
         n[1] as usize,
@@ -34,20 +35,20 @@ fn set_up(n: [u64; MOST], addresses: &[u64]) -> State {
         word(n[6]),
         addresses,
     );
-    show_word(begun.number);
-    begun.state
+    show_word(output, begun.number)?;
+    Ok(begun.state)
 }
 
-fn step(n: [u64; MOST], state: State) -> State {
+fn step<W: Write>(output: &mut W, n: [u64; MOST], state: State) -> Result<State> {
     let stepped = startup::step(state, word(n[0]));
     let action = stepped.action;
-    show_action(action);
-    stepped.state
+    show_action(output, action)?;
+    Ok(stepped.state)
 }
 
-fn is_sound(state: State) -> State {
-    show_whether(startup::is_sound(state));
-    state
+fn is_sound<W: Write>(output: &mut W, state: State) -> Result<State> {
+    show_whether(output, startup::is_sound(state))?;
+    Ok(state)
 }
 
 // ---- a state's fields as numbers
@@ -115,14 +116,14 @@ pub fn has_place(field: u64, place: u64) -> bool {
     field < FIELDS as u64 && place == 0
 }
 
-fn forge(n: [u64; MOST], state: State) -> State {
+fn forge<W: Write>(output: &mut W, n: [u64; MOST], state: State) -> Result<State> {
     let setup = state.setup;
     let field = n[0] as usize;
     let place = n[1] as usize;
     let mut numbers = numbers_of(state);
     let mut rings = setup.rings;
-    show(n[0]);
-    show(n[1]);
+    show(output, n[0])?;
+    show(output, n[1])?;
     if field < FIELDS {
         numbers[field] = n[2];
     }
@@ -131,22 +132,28 @@ fn forge(n: [u64; MOST], state: State) -> State {
             rings[place] = n[2];
         }
     }
-    state_of(numbers, rings)
+    Ok(state_of(numbers, rings))
 }
 
-fn fields(state: State) -> State {
+fn fields<W: Write>(output: &mut W, state: State) -> Result<State> {
     let numbers = numbers_of(state);
-    show_numbers(&numbers);
-    state
+    show_numbers(output, &numbers)?;
+    Ok(state)
 }
 
 // A record of these kinds, lent some addresses.
-pub fn call(kind: u16, n: [u64; MOST], state: State, addresses: &[u64]) -> State {
+pub fn call<W: Write>(
+    output: &mut W,
+    kind: u16,
+    n: [u64; MOST],
+    state: State,
+    addresses: &[u64],
+) -> Result<State> {
     match kind {
-        40 => set_up(n, addresses),
-        41 => step(n, state),
-        42 => is_sound(state),
-        43 => forge(n, state),
-        _ => fields(state),
+        40 => set_up(output, n, addresses),
+        41 => step(output, n, state),
+        42 => is_sound(output, state),
+        43 => forge(output, n, state),
+        _ => fields(output, state),
     }
 }

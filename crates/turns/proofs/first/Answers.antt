@@ -5,19 +5,11 @@ use Rattle.rules.specs.Packets.{fresh_call}
 use Rattle.rules.specs.Sound.{is_size, in_range}
 use Rattle.rules.specs.Refusals.{fresh_verdict}
 use Rattle.tally.specs.Tally.{fresh_answer}
-use borrow.Author.Rules.{rules}
-use Rattle.turns.proofs.first.Statement.{statement}
-use Rattle.turns.proofs.first.Tie as tie
-
-fresh-requires : tie.Need-fresh-requires
-fresh-requires c κs = search rules
+use Rattle.turns.proofs.first.Goals as goal
 
 in-range : (fresh_answer 1 64 0).number ≡ 0
 unfolding fresh_answer fresh_call fresh_verdict in_range is_size some
 in-range = refl
 
-returns : tie.Need-returns
-returns c = (refl, refl, refl, c.before.fresh.ensures.1 (rw c.before.fresh.ensures.0 in-range))
-
-pub first_spec : {M : Type 1} → statement M
-first_spec = tie.close (tie.spec fresh-requires returns)
+pub returns : goal.returns
+returns c = (refl, refl, refl, c.fresh-fresh.ensures.keeps (rw c.fresh-fresh.ensures.answer in-range))
