@@ -14,7 +14,7 @@ use std::io::{Result, Write};
 use window::Window;
 
 // What the calls change: a start-up state, a window and the sums. Good: the last record was.
-#[derive(Drop)]
+#[derive(Clone, Copy)]
 pub struct Kept {
     pub state: State,
     pub window: Window,

@@ -7,7 +7,7 @@ ghost use Rattle.std.specs.Prelude.{◌≡◌};
 ghost use Rattle.stats.specs.Sums.{byte_count, with_more};
 
 // The packets and bytes received and sent.
-#[derive(Drop)]
+#[derive(Clone, Copy)]
 pub struct Stats {
     pub received: u64,
     pub sent: u64,
