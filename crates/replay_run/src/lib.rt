@@ -2,7 +2,7 @@
 
 #![tactic(auto)]
 
-ghost use Rattle.std.specs.Prelude.{◌≤◌, length, IfOk};
+ghost use Rattle.std.specs.Prelude.{◌≡◌, ◌≤◌, length, IfOk, OnErr};
 
 use replay_calls::{Next, ROOM};
 use replay_lines::bad;
@@ -52,7 +52,8 @@ fn broken(found: bool) -> Record
 
 // Reads a body into the first bytes of a buffer. One that the buffer can't hold is not whole.
 fn read_body<R: Read>(input: &mut R, kind: u16, size: usize, buffer: &mut [u8]) -> Result<Record>
-    ensures { IfOk result (λ body. body.size ≤ length buffer.new) }
+    ensures ok { IfOk result (λ body. body.size ≤ length buffer.new) }
+    ensures err { OnErr result (length buffer.new ≡ length buffer.old) }
 {
     if buffer.len() < size {
         return Ok(broken(true));
@@ -71,7 +72,8 @@ fn read_body<R: Read>(input: &mut R, kind: u16, size: usize, buffer: &mut [u8]) 
 
 // Reads a record, its body into the first bytes of a buffer.
 fn read<R: Read>(input: &mut R, buffer: &mut [u8]) -> Result<Record>
-    ensures { IfOk result (λ body. body.size ≤ length buffer.new) }
+    ensures ok { IfOk result (λ body. body.size ≤ length buffer.new) }
+    ensures err { OnErr result (length buffer.new ≡ length buffer.old) }
 {
     let mut head = [0u8; 4];
     let got = reading::read_full(input, &mut head)?;
