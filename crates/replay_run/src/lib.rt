@@ -103,7 +103,8 @@ fn set_up<W: Write>(
     replay_registers::play(output, number, SET_UP, body, registers, addresses)
 }
 
-// A record of the registers.
+// A record of the registers. What it lends a set-up is on the stack only while it plays.
+#[inline(never)]
 fn play_registers<W: Write>(
     output: &mut W,
     number: u64,
