@@ -35,7 +35,7 @@ unfolding is_good
 started c = rw (eq-eqb _ _ c.if-handle-account.false, lt-ltb _ _ c.if-account-id.false, eq-eqb _ _ c.if-account-id-ne-HAND_OUT.false)
 
 pub returns-then-offset-ne-HEADROOM : goal.returns-then-offset-ne-HEADROOM
-returns-then-offset-ne-HEADROOM c = rw (started (goal.at.returns-then-offset-ne-HEADROOM c).Else-account-id-ne-HAND_OUT, ne_eqb _ _ c.if-offset-ne0.true, ne_eqb _ _ c.if-offset-ne-HEADROOM.true)
+returns-then-offset-ne-HEADROOM c = rw (started (goal.at.returns-then-offset-ne-HEADROOM c).Else-account-id-ne-HAND_OUT, ne_eqb c.args.handle.offset 0 c.if-offset-ne0.true, ne_eqb c.args.handle.offset HEADROOM c.if-offset-ne-HEADROOM.true)
 
 pub returns : goal.returns
 returns c =

@@ -1,8 +1,8 @@
 -- `service::low_word` meets its contract: the first four bytes, joined. Assumes nothing.
-use borrow.Author.Rules.{rules}
+use native.Mathlib.Omega.{arith}
 use Rattle.service.specs.Mac.{low_word}
 use Rattle.service.proofs.low_word.Goals as goal
 
 pub returns : goal.returns
 unfolding low_word
-returns c = search rules
+returns c = omega arith

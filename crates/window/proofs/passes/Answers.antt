@@ -2,6 +2,7 @@
 use Prim.Native.Nat.{◌≤◌}
 use mathlib.Core.Path.{◌≡◌, sym, ◌∙◌}
 use mathlib.Core.Bool.{true}
+use lib.Dec.{eqb}
 use native.Mathlib.Omega.{arith}
 use borrow.Author.Tests.{lt-ltb, le-ltb, eqb-true}
 use Rattle.limits.specs.Limits.{MOST-RATES}
@@ -39,7 +40,10 @@ unfolding sound
 returns c =
     record {
       exact =
+          let adds_up : eqb c.args.window.sum c.total_of.result ≡ sound c.args.window =
           rw c.total_of.ensures.0
-          (simp (ranged (goal.at.returns c).Else-not-in_range, lt-ltb _ _ c.if-range-count.false, lt-ltb _ _ c.if-window-ge-CLOCK_CALLS.false));
+          (simp (ranged (goal.at.returns c).Else-not-in_range, lt-ltb _ _ c.if-range-count.false, lt-ltb _ _ c.if-window-ge-CLOCK_CALLS.false))
+          in
+          adds_up;
       small = λ e. omega (arith, eqb-true c.args.window.sum c.total_of.result e, c.total_of.ensures.1, few (goal.at.returns c).Else-range-count);
     }

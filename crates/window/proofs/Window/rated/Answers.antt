@@ -1,11 +1,12 @@
 -- `window::Window::rated` meets its contract: the tests in order. Assumes nothing.
-use Prim.Native.Nat.{ℕ}
-use mathlib.Core.Path.{◌≡◌, refl, sym, ◌∙◌}
+use Prim.Native.Nat.{ℕ, ◌<◌}
+use mathlib.Core.Path.{◌≡◌, refl, sym, subst, ◌∙◌}
 use mathlib.Core.Bool.{Bool, true, false, not}
 use lib.Dec.{ltb, leb}
 use borrow.Author.Tests.{leb-true, leb-false, lt-ltb, le-ltb, eq-eqb, ne_eqb}
 use Rattle.laws.specs.Test.{either}
 use Rattle.laws.proofs.Test.{either_true}
+use Rattle.window.specs.declared.Window.{Window}
 use Rattle.window.specs.Window.{sound, rated_call}
 use Rattle.window.proofs.Laws.{sound-means, rate-some}
 use Rattle.window.proofs.Window.rated.Goals as goal
@@ -35,7 +36,10 @@ pub take_rate-next-requires : goal.take_rate-next-requires
 take_rate-next-requires c = (sound-means _ (passed (goal.at.take_rate-next-requires c).Else-not-passes), c.passes.ensures.small c.if-not-passes.false)
 
 pub nonzero_div-mean : goal.nonzero_div-mean
-nonzero_div-mean c = rw c.take_rate-next.ensures (rate-some _ _ (sound-means _ (passed (goal.at.nonzero_div-mean c).Else-not-passes)))
+nonzero_div-mean c =
+    let some = rate-some c.args.self c.args.rate (sound-means _ (passed (goal.at.nonzero_div-mean c).Else-not-passes)) in
+    let Counts : Window → Type 0 = λ w. 0 < w.count in
+    subst Counts (sym c.take_rate-next.ensures) some
 
 pub returns-then-received-asked : goal.returns-then-received-asked
 unfolding rated_call
