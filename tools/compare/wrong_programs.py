@@ -1,12 +1,18 @@
 """What the refusals of the wrong programs show: the must-fail edits, by what `rt ci` said of them.
 
-`rt ci` says of each edit how it was refused, and the first place that no longer holds. It says so too where a refusal tells little of the contract: where
-only a proof file names what the edit took away, or where the prover stopped at a limit of its own. Such a refusal shows no fact.
+`rt ci` says of each edit how it was refused, and the first place that no longer holds, cut. A refusal shows a fact if that place has two things that differ,
+numbers at which an arithmetic goal fails, or a goal of a contract that nobody wrote a proof of by hand. One that shows none of these, as where a rewrite
+no longer fits, where only a proof file names what the edit took away, or where the prover stopped at a limit of its own, shows nothing.
 """
 import re
 
 SAID = re.compile(r"^rt: must-fail (?P<name>\S+)\.edit: (?P<how>.*)$", re.M)
-REFUSED = re.compile(r"refused, as it must be(?:: (?P<place>.*))?$")
+REFUSED = re.compile(r"refused, as it must be: (?P<place>.*)$")
+# how a place says it
+SHOWN = re.compile(
+    r"differ only where one has|first differ where one has|the two types are `|expected type `|one side reads `"
+    r"|`omega`: the goal does not follow from what it read|^note: \S+ it is not proved that"
+)
 
 
 def facts(said):
@@ -14,7 +20,7 @@ def facts(said):
     found = {}
     for line in SAID.finditer(said):
         refused = REFUSED.match(line["how"])
-        found[line["name"]] = (refused["place"] or "what the crate ensures is not proved") if refused else None
+        found[line["name"]] = refused["place"] if refused and SHOWN.search(refused["place"]) else None
     return found
 
 
