@@ -5,10 +5,10 @@
 ghost use Rattle.std.specs.Prelude.{ℕ, ◌≤◌, ◌<◌, length, take, IfOk, OnErr};
 ghost use Rattle.std.specs.Io.KnownBytes.{Consumes, IsAtEnd};
 
-use std::io::{Error, ErrorKind, Read, Result};
+use std::io::{Read, Result};
 
 // Reads until the part is full or the input has ended. Answers how many bytes there are; they are the input's next. After an error the first bytes of
-// the part are what was read before it. A read that a signal interrupts is made again.
+// the part are what was read before it. A read that a signal interrupts is an error like any other.
 pub fn read_full<R: Read>(input: &mut R, part: &mut [u8]) -> Result<usize>
     ensures within { IfOk result (λ count. count ≤ length part.new) }
     ensures bytes { IfOk result (λ count. Consumes (R.remaining input.old) (R.remaining input.new) (take count part.new)) }
@@ -16,19 +16,12 @@ pub fn read_full<R: Read>(input: &mut R, part: &mut [u8]) -> Result<usize>
     ensures err { OnErr result ((count : ℕ) × Consumes (R.remaining input.old) (R.remaining input.new) (take count part.new)) }
 {
     let mut done = 0;
-    for _ in 0..u64::MAX {
-        if done == part.len() {
+    while done < part.len() {
+        let count = input.read(&mut part[done..])?;
+        if count == 0 {
             return Ok(done);
         }
-        match input.read(&mut part[done..]) {
-            Ok(0) => return Ok(done),
-            Ok(count) => done += count,
-            Err(error) => {
-                if error.kind() != ErrorKind::Interrupted {
-                    return Err(error);
-                }
-            }
-        }
+        done += count;
     }
-    Err(Error::from(ErrorKind::Interrupted))
+    Ok(done)
 }
