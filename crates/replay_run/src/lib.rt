@@ -2,7 +2,8 @@
 
 #![tactic(auto)]
 
-ghost use Rattle.std.specs.Prelude.{◌≡◌, ◌≤◌, length, IfOk, OnErr};
+ghost use Rattle.std.specs.Prelude.{ℕ, List, ◌≤◌, length, take, IfOk, OnErr};
+ghost use Rattle.std.specs.Io.KnownBytes.{Consumes};
 
 use replay_calls::{Next, ROOM};
 use replay_lines::bad;
@@ -53,7 +54,7 @@ fn broken(found: bool) -> Record
 // Reads a body into the first bytes of a buffer. One that the buffer can't hold is not whole.
 fn read_body<R: Read>(input: &mut R, kind: u16, size: usize, buffer: &mut [u8]) -> Result<Record>
     ensures ok { IfOk result (λ body. body.size ≤ length buffer.new) }
-    ensures err { OnErr result (length buffer.new ≡ length buffer.old) }
+    ensures err { OnErr result ((count : ℕ) × Consumes (R.remaining input.old) (R.remaining input.new) (take count buffer.new)) }
 {
     if buffer.len() < size {
         return Ok(broken(true));
@@ -73,7 +74,7 @@ fn read_body<R: Read>(input: &mut R, kind: u16, size: usize, buffer: &mut [u8]) 
 // Reads a record, its body into the first bytes of a buffer.
 fn read<R: Read>(input: &mut R, buffer: &mut [u8]) -> Result<Record>
     ensures ok { IfOk result (λ body. body.size ≤ length buffer.new) }
-    ensures err { OnErr result (length buffer.new ≡ length buffer.old) }
+    ensures err { OnErr result ((bytes : List ℕ) × Consumes (R.remaining input.old) (R.remaining input.new) bytes) }
 {
     let mut head = [0u8; 4];
     let got = reading::read_full(input, &mut head)?;
