@@ -1,6 +1,6 @@
 #!/usr/bin/env bash
-# Builds crates/replay_host/out/replay_host: `replay` with packet memory of any length, lent by a host in C. Only the few lines of the library
-# `replay_host` are proved by this; what they call is taken as `rt check` or `rt ci` left it.
+# Builds crates/replay_host/out/replay_host: `replay` with packet memory of any length, lent by a host in C. What the library `replay_host` calls is taken
+# as `rt check` left it on this machine, and else proved again: `rt lib` takes nothing from `rt ci`.
 set -eu
 cd "$(dirname "$0")/.."
 
