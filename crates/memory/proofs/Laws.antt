@@ -17,10 +17,10 @@ use Rattle.limits.specs.Limits.{HEADROOM}
 use Rattle.pool.specs.declared.Handle.{Handle}
 use Rattle.pool.specs.Stack.{top}
 use Rattle.rules.specs.declared.Account.{Account}
-use Rattle.rules.specs.declared.Refusal.{Refusal}
-use Rattle.rules.specs.declared.Refusal.TheVariants.{TooLarge, NoHeadroom}
-use Rattle.rules.specs.declared.Verdict.{Verdict}
-use Rattle.rules.specs.declared.Verdict.TheVariants.{Done, Refused}
+use Rattle.refusals.specs.declared.Refusal.{Refusal}
+use Rattle.refusals.specs.declared.Refusal.TheVariants.{TooLarge, NoHeadroom}
+use Rattle.rules.specs.Verdict.{Verdict}
+use Rattle.rules.specs.Verdict.{Done, Refused}
 use Rattle.rules.specs.Numbers.{unless, on_verdict}
 use Rattle.rules.specs.Sound.{sound, Full, Good}
 use Rattle.rules.specs.Refusals.{take_verdict, view_verdict, clone_verdict, headroom_verdict}

@@ -3,10 +3,10 @@ use Prim.Native.Nat.{ℕ}
 use mathlib.Core.Path.{◌≡◌, refl, ap}
 use mathlib.Core.Bool.{true}
 use Rattle.rules.specs.declared.Account.{Account}
-use Rattle.rules.specs.declared.Kept.{Kept}
-use Rattle.rules.specs.declared.Taken.{Taken}
-use Rattle.rules.specs.declared.Verdict.{Verdict}
-use Rattle.rules.specs.declared.Verdict.TheVariants.{Done, Refused}
+use Rattle.rules.specs.Answers.{Kept}
+use Rattle.rules.specs.Answers.{Taken}
+use Rattle.rules.specs.Verdict.{Verdict}
+use Rattle.rules.specs.Verdict.{Done, Refused}
 use Rattle.rules.specs.Refusals.{fresh_verdict}
 use Rattle.rules.specs.Sound.{sound}
 use Rattle.rules.specs.Packets.{Batched, Cloned, fresh_call}

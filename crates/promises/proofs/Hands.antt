@@ -15,7 +15,7 @@ use Rattle.laws.proofs.Occurs.{ind-le}
 use Rattle.laws.proofs.Sum.{sum_same}
 use Rattle.pool.specs.Hands.{HAND-FREE, HAND-RECEIVE, HAND-SEND}
 use Rattle.rules.specs.declared.Account.{Account}
-use Rattle.rules.specs.declared.Verdict.TheVariants.{Done}
+use Rattle.rules.specs.Verdict.{Done}
 use Rattle.rules.specs.Account.{hand_of, free_list, receive_list, pending, send_list, held, opened}
 use Rattle.rules.specs.Sound.{Sound}
 use Rattle.rules.specs.Refusals.{fresh_verdict}

@@ -10,14 +10,14 @@ use Rattle.limits.specs.Limits.{SLOTS, HEADROOM}
 use Rattle.laws.specs.Test.{both}
 use Rattle.pool.specs.declared.Handle.{Handle}
 use Rattle.rules.specs.declared.Account.{Account}
-use Rattle.rules.specs.declared.Counts.{Counts}
-use Rattle.rules.specs.declared.Kept.{Kept}
-use Rattle.rules.specs.declared.Taken.{Taken}
-use Rattle.rules.specs.declared.Truncated.{Truncated}
-use Rattle.rules.specs.declared.Refusal.{Refusal}
-use Rattle.rules.specs.declared.Refusal.TheVariants.{WrongSize, NoQueue, BadHandle, TooLarge, NoneFree, NoHeadroom, NotNow}
-use Rattle.rules.specs.declared.Verdict.{Verdict}
-use Rattle.rules.specs.declared.Verdict.TheVariants.{Done, Refused}
+use Rattle.rules.specs.Answers.{Counts}
+use Rattle.rules.specs.Answers.{Kept}
+use Rattle.rules.specs.Answers.{Taken}
+use Rattle.rules.specs.Answers.{Truncated}
+use Rattle.refusals.specs.declared.Refusal.{Refusal}
+use Rattle.refusals.specs.declared.Refusal.TheVariants.{WrongSize, NoQueue, BadHandle, TooLarge, NoneFree, NoHeadroom, NotNow}
+use Rattle.rules.specs.Verdict.{Verdict}
+use Rattle.rules.specs.Verdict.{Done, Refused}
 use Rattle.rules.specs.Numbers.{refusal_number, number, unless, on_verdict, verdict_of}
 use Rattle.rules.specs.Handles.{Handles, has_room}
 use Rattle.rules.specs.Sound.{is_good}

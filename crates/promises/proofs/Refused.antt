@@ -8,13 +8,13 @@ use lib.ListN.{length}
 use native.Mathlib.Omega.{arith}
 use Rattle.pool.specs.declared.Handle.{Handle}
 use Rattle.rules.specs.declared.Account.{Account}
-use Rattle.rules.specs.declared.Refusal.{Refusal}
-use Rattle.rules.specs.declared.Refusal.TheVariants.{Unsound, WrongSize, NoQueue, BadHandle, TooLarge, NoneFree, NoHeadroom, NotNow, OutOfRange}
-use Rattle.rules.specs.declared.Verdict.{Verdict}
-use Rattle.rules.specs.declared.Verdict.TheVariants.{Done, Refused}
+use Rattle.refusals.specs.declared.Refusal.{Refusal}
+use Rattle.refusals.specs.declared.Refusal.TheVariants.{Unsound, WrongSize, NoQueue, BadHandle, TooLarge, NoneFree, NoHeadroom, NotNow, OutOfRange}
+use Rattle.rules.specs.Verdict.{Verdict}
+use Rattle.rules.specs.Verdict.{Done, Refused}
 use Rattle.rules.specs.Numbers.{refusal_number, number}
-use Rattle.rules.specs.declared.Ended.TheVariants as ended
-use Rattle.rules.specs.declared.Tail.TheVariants.{Unwritten}
+use Rattle.rules.specs.Ended as ended
+use Rattle.rules.specs.Tail.{Unwritten}
 use Rattle.rules.specs.Handles.{Handles, no_handle}
 use Rattle.rules.specs.Refusals.{take_verdict, batch_verdict, handle_verdict, view_verdict, clone_verdict, headroom_verdict, start_verdict, receive_verdict, send_verdict}
 use Rattle.rules.specs.Packets.{take_call, batch_call, release_call, truncate_call, clone_call, Lent, no_part, view_call, headroom_call}

@@ -12,7 +12,7 @@ use Rattle.words.specs.Slots.{slot_at, command_of, payload_of, described}
 use Rattle.words.proofs.Laws.{read-other, read_same}
 use Rattle.words.proofs.Slots.{length-described, described-other, described-payload, described-command}
 use Rattle.pool.specs.declared.Handle.{Handle}
-use Rattle.rules.specs.declared.Found.TheVariants.{Frame}
+use Rattle.rules.specs.Found.{Frame}
 use Rattle.rules.specs.Handles.{Handles, handle_at}
 use Rattle.rules.specs.Account.{waiting}
 use Rattle.rules.specs.Refusals.{batch_of}

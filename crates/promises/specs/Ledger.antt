@@ -3,7 +3,7 @@
 use Rattle.std.specs.Prelude.{ℕ, ◌+◌, take, eqb}
 use Rattle.laws.specs.Occurs.{ind, occurs}
 use Rattle.rules.specs.declared.Account.{Account}
-use Rattle.rules.specs.declared.Verdict.{Verdict}
+use Rattle.rules.specs.Verdict.{Verdict}
 use Rattle.rules.specs.Numbers.{on_verdict}
 use Rattle.promises.specs.History.{Step, History}
 use Rattle.promises.specs.History as h

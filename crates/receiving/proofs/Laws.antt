@@ -10,7 +10,7 @@ use borrow.Author.Tests.{eqb-true, leb-true}
 use Rattle.limits.specs.Limits.{SLOTS, RING-BYTES}
 use Rattle.laws.proofs.Test.{both_left, both_right}
 use Rattle.rules.specs.declared.Account.{Account}
-use Rattle.rules.specs.declared.Verdict.TheVariants.{Done}
+use Rattle.rules.specs.Verdict.{Done}
 use Rattle.rules.specs.Handles.{Handles}
 use Rattle.rules.specs.Sound.{sound, Full}
 use Rattle.rules.specs.Refusals.{rings_fit, start_verdict, receive_verdict}

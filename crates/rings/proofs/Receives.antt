@@ -14,7 +14,7 @@ use Rattle.pool.specs.Stack.{top, popped}
 use Rattle.pool.specs.Hands.{HAND-RECEIVE, HAND-OUT}
 use Rattle.rules.specs.declared.Stop.{Stop}
 use Rattle.rules.specs.declared.Stop.TheVariants.{Asked}
-use Rattle.rules.specs.declared.Found.TheVariants.{Nothing, Frame}
+use Rattle.rules.specs.Found.{Nothing, Frame}
 use Rattle.rules.specs.Handles.{Handles, put_handle, Room}
 use Rattle.rules.specs.Account.{next_slot}
 use Rattle.rules.specs.Receive.{Filling, filled, fill_rule, Receiving, old_id, frame_of, received, next, receive_rule}

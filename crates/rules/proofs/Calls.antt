@@ -14,9 +14,9 @@ use Rattle.laws.proofs.Test.{both_left, both_right}
 use Rattle.pool.specs.declared.Handle.{Handle}
 use Rattle.pool.specs.Hands.{HAND-OUT}
 use Rattle.rules.specs.declared.Account.{Account}
-use Rattle.rules.specs.declared.Verdict.TheVariants.{Done}
-use Rattle.rules.specs.declared.Kept.{Kept}
-use Rattle.rules.specs.declared.Taken.{Taken}
+use Rattle.rules.specs.Verdict.{Done}
+use Rattle.rules.specs.Answers.{Kept}
+use Rattle.rules.specs.Answers.{Taken}
 use Rattle.rules.specs.Handles.{Handles, handle_at, has_room}
 use Rattle.rules.specs.Account.{waiting}
 use Rattle.rules.specs.Sound.{in_range, is_good, Good, sound, Sound, Full}

@@ -13,10 +13,10 @@ use Rattle.laws.specs.Occurs.{occurs}
 use Rattle.laws.proofs.Test.{both_left, both_right}
 use Rattle.laws.proofs.Occurs.{occurs-at}
 use Rattle.rules.specs.declared.Account.{Account}
-use Rattle.rules.specs.declared.Refusal.{Refusal}
-use Rattle.rules.specs.declared.Refusal.TheVariants.{BadHandle}
-use Rattle.rules.specs.declared.Verdict.{Verdict}
-use Rattle.rules.specs.declared.Verdict.TheVariants.{Done, Refused}
+use Rattle.refusals.specs.declared.Refusal.{Refusal}
+use Rattle.refusals.specs.declared.Refusal.TheVariants.{BadHandle}
+use Rattle.rules.specs.Verdict.{Verdict}
+use Rattle.rules.specs.Verdict.{Done, Refused}
 use Rattle.rules.specs.Numbers.{unless, on_verdict}
 use Rattle.rules.specs.Handles.{Handles, handle_at, has_room, Room}
 use Rattle.rules.specs.Sound.{is_good, Good}

@@ -1,6 +1,12 @@
+pub mod Verdict
+pub mod Ended
+pub mod Found
+pub mod Tail
 pub mod Numbers
 pub mod Handles
 pub mod Account
+pub mod Answers
+pub mod Results
 pub mod Sound
 pub mod Refusals
 pub mod Packets

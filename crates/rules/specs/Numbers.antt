@@ -1,36 +1,13 @@
--- Document 01, "Number returned by a call": the number of each verdict, and what is also returned.
+-- Document 01, "Number returned by a call": the number of each verdict. `refusals` has that of each refusal, and what is also returned.
 use Rattle.std.specs.Prelude.{ℕ, Bool, true, false}
-use Rattle.rules.specs.declared.Refusal.{Refusal}
-use Rattle.rules.specs.declared.Refusal.TheVariants.{Unsound, WrongSize, NoQueue, BadHandle, TooLarge, NoneFree, NoHeadroom, NotNow, OutOfRange}
-use Rattle.rules.specs.declared.Verdict.{Verdict}
-use Rattle.rules.specs.declared.Verdict.TheVariants.{Done, Refused}
-use Rattle.rules.specs.declared.Ended.{Ended}
-use Rattle.rules.specs.declared.Ended.TheVariants as ended
-use Rattle.rules.specs.declared.Tail.{Tail}
-use Rattle.rules.specs.declared.Tail.TheVariants.{Unwritten, Written}
-
-abbrev pub refusal_number : Refusal → ℕ
-refusal_number Unsound = 1
-refusal_number WrongSize = 2
-refusal_number NoQueue = 3
-refusal_number (BadHandle index) = 4
-refusal_number TooLarge = 5
-refusal_number NoneFree = 6
-refusal_number NoHeadroom = 7
-refusal_number NotNow = 8
-refusal_number OutOfRange = 9
-
--- what is also returned: the index of the first bad handle
-abbrev pub refusal_index : Refusal → ℕ
-refusal_index Unsound = 0
-refusal_index WrongSize = 0
-refusal_index NoQueue = 0
-refusal_index (BadHandle index) = index
-refusal_index TooLarge = 0
-refusal_index NoneFree = 0
-refusal_index NoHeadroom = 0
-refusal_index NotNow = 0
-refusal_index OutOfRange = 0
+use Rattle.refusals.specs.declared.Refusal.{Refusal}
+use Rattle.refusals.specs.Numbers.{refusal_number}
+use Rattle.rules.specs.Verdict.{Verdict}
+use Rattle.rules.specs.Verdict.{Done, Refused}
+use Rattle.rules.specs.Ended.{Ended}
+use Rattle.rules.specs.Ended as ended
+use Rattle.rules.specs.Tail.{Tail}
+use Rattle.rules.specs.Tail.{Unwritten, Written}
 
 -- the number of a call that says so: 0 is done
 abbrev pub number : Verdict → ℕ

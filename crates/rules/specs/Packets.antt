@@ -10,12 +10,12 @@ use Rattle.pool.specs.declared.Handle.{Handle}
 use Rattle.pool.specs.Stack.{top, popped, pushed}
 use Rattle.pool.specs.Hands.{HAND-FREE, HAND-OUT}
 use Rattle.rules.specs.declared.Account.{Account}
-use Rattle.rules.specs.declared.Verdict.TheVariants.{Done, Refused}
-use Rattle.rules.specs.declared.Kept.{Kept}
-use Rattle.rules.specs.declared.Taken.{Taken}
-use Rattle.rules.specs.declared.Batch.{Batch}
-use Rattle.rules.specs.declared.Truncated.{Truncated}
-use Rattle.rules.specs.declared.Counts.{Counts}
+use Rattle.rules.specs.Verdict.{Done, Refused}
+use Rattle.rules.specs.Answers.{Kept}
+use Rattle.rules.specs.Answers.{Taken}
+use Rattle.rules.specs.Answers.{Batch}
+use Rattle.rules.specs.Answers.{Truncated}
+use Rattle.rules.specs.Answers.{Counts}
 use Rattle.rules.specs.Numbers.{on_verdict}
 use Rattle.rules.specs.Handles.{Handles, put_handle, no_handle}
 use Rattle.rules.specs.Account.{receive_list, waiting, opened, no_account, with_pool}

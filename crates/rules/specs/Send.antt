@@ -9,9 +9,9 @@ use Rattle.pool.specs.declared.Handle.{Handle}
 use Rattle.pool.specs.Stack.{pushed}
 use Rattle.pool.specs.Hands.{HAND-FREE, HAND-SEND}
 use Rattle.rules.specs.declared.Account.{Account}
-use Rattle.rules.specs.declared.Verdict.TheVariants.{Done, Refused}
-use Rattle.rules.specs.declared.Tail.TheVariants.{Unwritten, Written}
-use Rattle.rules.specs.declared.Sent.{Sent}
+use Rattle.rules.specs.Verdict.{Done, Refused}
+use Rattle.rules.specs.Tail.{Unwritten, Written}
+use Rattle.rules.specs.Answers.{Sent}
 use Rattle.rules.specs.Numbers.{on_verdict}
 use Rattle.rules.specs.Handles.{Handles, handle_at}
 use Rattle.rules.specs.Account.{next_slot, waiting, send_place, with_send}

@@ -11,7 +11,7 @@ use borrow.Author.Tests.{eqb-true, ltb-true}
 use Rattle.limits.specs.Limits.{SENDS, SLOTS, RING-BYTES, BATCH}
 use Rattle.laws.proofs.Test.{both_left, both_right}
 use Rattle.rules.specs.declared.Account.{Account}
-use Rattle.rules.specs.declared.Verdict.TheVariants.{Done}
+use Rattle.rules.specs.Verdict.{Done}
 use Rattle.rules.specs.Handles.{Handles, handle_at}
 use Rattle.rules.specs.Account.{waiting}
 use Rattle.rules.specs.Sound.{sound, Full, Good}

@@ -21,8 +21,8 @@ use Rattle.laws.proofs.Occurs.{occurs-more}
 use Rattle.pool.specs.declared.Handle.{Handle}
 use Rattle.pool.specs.Hands.{HAND-OUT}
 use Rattle.rules.specs.declared.Account.{Account}
-use Rattle.rules.specs.declared.Refusal.TheVariants.{BadHandle}
-use Rattle.rules.specs.declared.Verdict.TheVariants.{Done, Refused}
+use Rattle.refusals.specs.declared.Refusal.TheVariants.{BadHandle}
+use Rattle.rules.specs.Verdict.{Done, Refused}
 use Rattle.rules.specs.Handles.{Handles, handle_at}
 use Rattle.rules.specs.Sound.{is_good}
 use Rattle.rules.specs.Refusals.{sendable, handles_verdict}

@@ -10,7 +10,7 @@ use native.Mathlib.Omega.{arith}
 use Rattle.limits.specs.Limits.{SLOTS}
 use Rattle.laws.specs.Test.{pick}
 use Rattle.rules.specs.declared.Account.{Account}
-use Rattle.rules.specs.declared.Verdict.TheVariants.{Done}
+use Rattle.rules.specs.Verdict.{Done}
 use Rattle.rules.specs.Handles.{Handles}
 use Rattle.rules.specs.Sound.{sound, Full}
 use Rattle.rules.specs.Refusals.{receive_verdict}

@@ -14,10 +14,10 @@ use Rattle.limits.specs.Limits.{SLOTS}
 use Rattle.laws.proofs.Test.{both_true}
 use Rattle.pool.specs.declared.Handle.{Handle}
 use Rattle.rules.specs.declared.Account.{Account}
-use Rattle.rules.specs.declared.Verdict.{Verdict}
-use Rattle.rules.specs.declared.Verdict.TheVariants.{Done, Refused}
-use Rattle.rules.specs.declared.Found.{Found}
-use Rattle.rules.specs.declared.Found.TheVariants.{Nothing, Frame}
+use Rattle.rules.specs.Verdict.{Verdict}
+use Rattle.rules.specs.Verdict.{Done, Refused}
+use Rattle.rules.specs.Found.{Found}
+use Rattle.rules.specs.Found.{Nothing, Frame}
 use Rattle.rules.specs.Handles.{Handles, handles, put_handle, has_room, Room}
 use Rattle.rules.specs.Sound.{sound, Full}
 use Rattle.rules.specs.Refusals.{receive_verdict}

@@ -7,8 +7,8 @@ use borrow.Author.Tests.{ltb-true}
 use Rattle.limits.specs.Limits.{ENTRIES}
 use Rattle.pool.specs.declared.Handle.{Handle}
 use Rattle.rules.specs.declared.Account.{Account}
-use Rattle.rules.specs.declared.Verdict.TheVariants.{Done}
-use Rattle.rules.specs.declared.Taken.{Taken}
+use Rattle.rules.specs.Verdict.{Done}
+use Rattle.rules.specs.Answers.{Taken}
 use Rattle.rules.specs.Sound.{sound, Full}
 use Rattle.rules.specs.Refusals.{take_verdict}
 use Rattle.rules.specs.Packets.{take_call, release_call}

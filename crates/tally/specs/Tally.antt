@@ -6,7 +6,7 @@ use Rattle.laws.specs.Test.{pick}
 use Rattle.laws.specs.Occurs.{sum_to}
 use Rattle.pool.specs.declared.Handle.{Handle}
 use Rattle.rules.specs.declared.Account.{Account}
-use Rattle.rules.specs.declared.Verdict.{Verdict}
+use Rattle.rules.specs.Verdict.{Verdict}
 use Rattle.rules.specs.Numbers.{number, on_verdict}
 use Rattle.rules.specs.Account.{waiting}
 use Rattle.rules.specs.Packets.{fresh_call, take_call, release_call}

@@ -5,7 +5,7 @@ use native.Mathlib.Omega.{arith}
 use lib.ListN.{length}
 use Rattle.limits.specs.Limits.{HEADROOM}
 use Rattle.pool.specs.Stack.{top}
-use Rattle.rules.specs.declared.Verdict.TheVariants.{Done}
+use Rattle.rules.specs.Verdict.{Done}
 use Rattle.rules.specs.Sound.{Full}
 use Rattle.rules.specs.Refusals.{clone_verdict}
 use Rattle.rules.specs.Packets.{place_of, clone_call}

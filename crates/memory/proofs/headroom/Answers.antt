@@ -5,7 +5,7 @@ use mathlib.Core.Path.{◌≡◌, sym, ◌∙◌}
 use native.Mathlib.Omega.{arith}
 use lib.ListN.{length}
 use lib.Arith.{sub-sub_self}
-use Rattle.rules.specs.declared.Verdict.TheVariants.{Done}
+use Rattle.rules.specs.Verdict.{Done}
 use Rattle.rules.specs.Refusals.{headroom_verdict}
 use Rattle.rules.specs.Packets.{headroom_call}
 use Rattle.memory.proofs.Laws.{Inside, headroom-inside}

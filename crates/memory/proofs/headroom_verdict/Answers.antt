@@ -4,7 +4,7 @@ use mathlib.Core.Bool.{true, false}
 use lib.Dec.{leb}
 use borrow.Author.Tests.{lt-leb, le-leb}
 use Rattle.limits.specs.Limits.{HEADROOM}
-use Rattle.rules.specs.declared.Verdict.TheVariants.{Done}
+use Rattle.rules.specs.Verdict.{Done}
 use Rattle.rules.specs.Refusals.{view_verdict}
 use Rattle.memory.proofs.Laws.{headroom-by-view}
 use Rattle.memory.proofs.headroom_verdict.Goals as goal

@@ -5,7 +5,7 @@ use native.Mathlib.Nat.{add-sub_cancel_left}
 use lib.ListN.{length}
 use Rattle.rules.specs.Packets.{view_call}
 use Rattle.rules.specs.Refusals.{view_verdict}
-use Rattle.rules.specs.declared.Verdict.TheVariants.{Done}
+use Rattle.rules.specs.Verdict.{Done}
 use Rattle.memory.proofs.Laws.{Inside, view-inside}
 use Rattle.memory.proofs.view.Goals as goal
 use Rattle.memory.proofs.view.Goals.{In-Done}

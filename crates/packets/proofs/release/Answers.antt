@@ -1,7 +1,7 @@
 -- `packets::release` meets its contract: refused as its verdict says, or the id is pushed, for which the stack has room. Assumes nothing.
 use mathlib.Core.Path.{◌≡◌, sym, ◌∙◌}
 use native.Mathlib.Omega.{arith}
-use Rattle.rules.specs.declared.Verdict.TheVariants.{Done}
+use Rattle.rules.specs.Verdict.{Done}
 use Rattle.rules.specs.Sound.{Full, Good}
 use Rattle.rules.specs.Refusals.{handle_verdict}
 use Rattle.rules.specs.Packets.{release_call}

@@ -2,7 +2,7 @@
 use Prim.Native.Nat.{◌<◌}
 use mathlib.Core.Path.{◌≡◌, refl, sym, ◌∙◌}
 use native.Mathlib.Omega.{arith}
-use Rattle.rules.specs.declared.Found.TheVariants.{Frame}
+use Rattle.rules.specs.Found.{Frame}
 use Rattle.rules.specs.Handles.{handles}
 use Rattle.rules.specs.Receive.{Receiving, next}
 use Rattle.rings.specs.Lent.{receiving_as}

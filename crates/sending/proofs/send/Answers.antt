@@ -1,6 +1,6 @@
 -- `sending::send` meets its contract: refused as its verdict says, or cleaned and sent. Assumes nothing.
 use mathlib.Core.Path.{◌≡◌, sym, ◌∙◌}
-use Rattle.rules.specs.declared.Verdict.TheVariants.{Done}
+use Rattle.rules.specs.Verdict.{Done}
 use Rattle.rules.specs.Handles.{handles}
 use Rattle.rules.specs.Sound.{Full}
 use Rattle.rules.specs.Refusals.{send_verdict}

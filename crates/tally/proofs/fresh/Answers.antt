@@ -3,9 +3,9 @@ use Prim.Native.Nat.{ℕ}
 use mathlib.Core.Path.{◌≡◌, refl, sym, ◌∙◌}
 use mathlib.Core.Bool.{true}
 use Rattle.laws.specs.Occurs.{sum_to}
-use Rattle.rules.specs.declared.Refusal.{Refusal}
-use Rattle.rules.specs.declared.Verdict.TheVariants.{Done, Refused}
-use Rattle.rules.specs.declared.Kept.{Kept}
+use Rattle.refusals.specs.declared.Refusal.{Refusal}
+use Rattle.rules.specs.Verdict.{Done, Refused}
+use Rattle.rules.specs.Answers.{Kept}
 use Rattle.rules.specs.Account.{opened, no_account}
 use Rattle.rules.specs.Sound.{sound}
 use Rattle.rules.specs.Refusals.{fresh_verdict}
