@@ -3,11 +3,15 @@
 
 #![tactic(auto)]
 
-ghost use Rattle.std.specs.Prelude.{◌≡◌, ◌<◌, ◌≤◌};
+ghost use Rattle.std.specs.Prelude.{◌≡◌, ◌<◌, ◌≤◌, length};
 ghost use Rattle.limits.specs.Limits.{ENTRIES};
 ghost use Rattle.pool.specs.Stack.{top, popped, pushed};
+ghost use Rattle.pool.specs.Good.{good_in};
 
-// The hands that can have a buffer. Send queue q is hand HAND_SEND + q.
+use limits::{ENTRIES, HEADROOM};
+
+// The hands that can have a buffer. Send queue q is hand HAND_SEND + q. They are bytes and no enum, since an account that a caller hands in may hold
+// any byte for an id, and `sound::is_sound` has to refuse it.
 pub const HAND_FREE: u8 = 0;
 
 pub const HAND_RECEIVE: u8 = 1;
@@ -25,10 +29,27 @@ pub struct Handle {
     pub length: u16,
 }
 
-// The ids of the buffers that nobody has, in an array beside their count. The top is the last.
+impl Handle {
+    // Whether a handle is good for a pool of so many entries of a size, by the record of hands.
+    #[tactic(auto, unfolding(crate::specs::Good::good_in))]
+    pub fn is_good(self, pool: u32, entries: usize, size: usize, hands: &[u8; ENTRIES]) -> bool
+        requires { entries ≤ ENTRIES }
+        ensures { result ≡ good_in pool entries size hands.now self }
+    {
+        let id = self.id as usize;
+        let offset = self.offset as usize;
+        self.pool == pool
+            && id < entries
+            && hands[id] == HAND_OUT
+            && (offset == 0 || offset == HEADROOM)
+            && offset + self.length as usize <= size
+    }
+}
+
+// The ids of the buffers that nobody has, the top last: an array beside its count, popped and pushed by value, as document 01 says.
 #[derive(Clone, Copy)]
 pub struct FreeStack {
-    pub ids: [u16; limits::ENTRIES],
+    pub ids: [u16; ENTRIES],
     pub depth: usize,
 }
 
@@ -50,8 +71,9 @@ impl FreeStack {
         Popped { id, stack: self }
     }
 
+    // The array has all its places, whoever asks: a caller need only show room where it has.
     pub fn push(mut self, id: u16) -> Self
-        requires { self.depth < ENTRIES }
+        requires { length self.ids ≡ ENTRIES → self.depth < ENTRIES }
         ensures { result ≡ pushed self id }
     {
         let at = self.depth;

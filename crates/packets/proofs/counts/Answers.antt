@@ -10,24 +10,22 @@ use Rattle.rules.specs.Packets.{counts_call}
 use Rattle.rules.proofs.Sound.{sound-means, means-indices}
 use Rattle.rules.proofs.Facts.{bounds}
 use Rattle.packets.proofs.counts.Goals as goal
-use Rattle.packets.proofs.counts.Goals.{Start}
+use Rattle.packets.proofs.counts.Goals.{Start, then-account, else-account}
 
--- ---- places: the entry, from before the counts and from behind them
-
-slots-all : (c : Start) → length c.args.account.slots ≡ SLOTS
+slots-all : (c : Start) → length c.args.account.now.slots ≡ SLOTS
 slots-all c = search rules
 
-pub send_counts-send-requires : goal.send_counts-send-requires
+pub send_counts-requires : goal.send_counts-requires
 unfolding queues_placed
-send_counts-send-requires c = every-all _ _ (λ q below. means-indices _ _ ((sound-means _ c.requires).queues q below))
+send_counts-requires c = every-all _ _ (λ q below. means-indices _ _ ((sound-means _ c.requires).queues q below))
 
-pub count_out-out-requires : goal.count_out-out-requires
-count_out-out-requires c = (bounds _ c.requires).entries-most
+pub count_out-requires : goal.count_out-requires
+count_out-requires c = (bounds _ c.requires).entries-most
 
-pub returns-then-account : goal.returns-then-account
+pub returns : goal.returns
 unfolding counts_call counts_verdict
-returns-then-account c = rw (c.requires, c.if-account.true, slots-all (goal.at.returns-then-account c).Start, c.send_counts-send.ensures, c.count_out-out.ensures)
-
-pub returns-else-account : goal.returns-else-account
-unfolding counts_call counts_verdict
-returns-else-account c = rw (c.requires, c.if-account.false, c.send_counts-send.ensures, c.count_out-out.ensures)
+returns c =
+    elim c.if-account.branch [
+      | then-account w ↦ rw (c.requires, w.if-account.true, w.result-is, slots-all (goal.at.returns c).Start, c.send_counts.ensures, c.count_out.ensures)
+      | else-account w ↦ rw (c.requires, w.if-account.false, w.result-is, c.send_counts.ensures, c.count_out.ensures)
+    ]

@@ -6,16 +6,16 @@ use Rattle.rules.proofs.Facts.{bounds}
 use Rattle.packets.proofs.take_verdict.Goals as goal
 
 pub overflow_sub-account : goal.overflow_sub-account
-overflow_sub-account c = omega (arith, bounds c.args.account c.requires)
+overflow_sub-account c = omega (arith, bounds c.args.account.now c.requires)
 
 pub returns-then-account-len : goal.returns-then-account-len
 unfolding take_verdict
 returns-then-account-len c = rw (c.requires, lt-leb _ _ c.if-account-len.true)
 
-pub returns-then-free-eq0 : goal.returns-then-free-eq0
+pub returns-then-account-eq0 : goal.returns-then-account-eq0
 unfolding take_verdict
-returns-then-free-eq0 c = rw (c.requires, le-leb _ _ c.if-account-len.false, le-ltb 0 c.args.account.free.depth (omega (arith, c.if-free-eq0.true)))
+returns-then-account-eq0 c = rw (c.requires, le-leb _ _ c.if-account-len.false, le-ltb 0 c.args.account.now.free.depth (omega (arith, c.if-account-eq0.true)))
 
 pub returns : goal.returns
 unfolding take_verdict
-returns c = rw (c.requires, le-leb _ _ c.if-account-len.false, lt-ltb 0 c.args.account.free.depth (omega (arith, c.if-free-eq0.false)))
+returns c = rw (c.requires, le-leb _ _ c.if-account-len.false, lt-ltb 0 c.args.account.now.free.depth (omega (arith, c.if-account-eq0.false)))

@@ -1,12 +1,13 @@
 -- `packets::truncate` meets its contract: refused as its verdict says, or shortened. Assumes nothing.
-use mathlib.Core.Path.{sym, ◌∙◌}
+use mathlib.Core.Path.{sym}
+use Rattle.std.proofs.lemmas.Result.{err_from_is_err_and}
 use Rattle.rules.specs.Packets.{truncate_call}
 use Rattle.packets.proofs.truncate.Goals as goal
 
-pub returns-in-Refused : goal.returns-in-Refused
+pub returns-in_err-handle_verdict : goal.returns-in_err-handle_verdict
 unfolding truncate_call
-returns-in-Refused c = rw (sym c.handle_verdict-verdict.ensures ∙ c.in-Refused.is)
+returns-in_err-handle_verdict c = let p = err_from_is_err_and c.from_residual.result c.from_residual.ensures.1 in rw (p.1, p.2, sym c.in_err-handle_verdict.ensures)
 
-pub returns-in-Done : goal.returns-in-Done
+pub returns : goal.returns
 unfolding truncate_call
-returns-in-Done c = rw (c.shorten.ensures, sym c.handle_verdict-verdict.ensures ∙ c.in-Done.is)
+returns c = rw (c.shorten.ensures, sym c.in_ok-handle_verdict.ensures)
