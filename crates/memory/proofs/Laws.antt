@@ -1,5 +1,4 @@
--- Laws of packet memory. A packet lies inside its entry and an entry inside packet memory, entries of two ids are apart, and a copy byte by byte
--- to a place that is apart is a copy of the whole part.
+-- Laws of packet memory: a packet lies inside its entry, and an entry inside packet memory.
 use Prim.Native.Nat.{ℕ, suc, ◌+◌, ◌-◌, ◌*◌, ◌≤◌, ◌<◌, min, max}
 use mathlib.Core.Path.{◌≡◌, refl, sym, ◌∙◌}
 use mathlib.Core.Bool.{Bool, true, false}
@@ -25,7 +24,8 @@ use Rattle.rules.specs.Numbers.{unless, on_verdict}
 use Rattle.rules.specs.Sound.{sound, Full, Good}
 use Rattle.rules.specs.Refusals.{take_verdict, view_verdict, clone_verdict, headroom_verdict}
 use Rattle.rules.specs.Packets.{part}
-use Rattle.rules.proofs.Facts.{Bounds, bounds, top-known}
+use Rattle.rules.proofs.Facts.{Bounds, bounds}
+use Rattle.packets.proofs.Top.{top-below}
 use Rattle.rules.proofs.Sound.{good-means}
 use Rattle.rules.proofs.Verdicts.{not_done, unless-done}
 use Rattle.rules.proofs.Calls.{clone-done}
@@ -59,13 +59,6 @@ module _ (a : Account) (h : Handle) (bytes : ℕ) where
 entry-before : (id other size : ℕ) → id < other → id * size + size ≤ other * size
 entry-before id other size below = rw (← suc-mul) (mul-le-mul_right size below)
 
-entries-apart : (id other size : ℕ) → (id ≡ other → ⊥) → min (id * size) (other * size) + size ≤ max (id * size) (other * size)
-entries-apart id other size differ = by-case (dec_lt id other)
-  where
-    by-case : Dec (id < other) → min (id * size) (other * size) + size ≤ max (id * size) (other * size)
-    by-case (yes below) = omega (arith, entry-before id other size below)
-    by-case (no above) = omega (arith, entry-before other id size (lt_of_le-ne (omega arith) (λ same. differ (sym same))))
-
 -- a packet lies in its entry, and its entry in packet memory
 pub record Inside (a : Account) (h : Handle) (bytes : ℕ) : Type 0 where
   pub numbers : Bounds a
@@ -73,14 +66,13 @@ pub record Inside (a : Account) (h : Handle) (bytes : ℕ) : Type 0 where
   pub whole : bytes ≡ a.entries * a.size
   pub entry : h.id * a.size + a.size ≤ bytes
 
--- and so does the entry that a clone gets, which is another one
+-- and so does the entry that a clone gets
 pub record Clonable (a : Account) (h : Handle) (bytes : ℕ) : Type 0 where
   pub inside : Inside a h bytes
   pub some : 0 < a.free.depth
   pub fits : h.length ≤ a.size - HEADROOM
   pub known : top a.free < a.entries
   pub entry : top a.free * a.size + a.size ≤ bytes
-  pub apart : min (h.id * a.size) (top a.free * a.size) + a.size ≤ max (h.id * a.size) (top a.free * a.size)
 
 module _ (a : Account) (h : Handle) (bytes : ℕ) where
   pub view-inside : view_verdict a h bytes ≡ Done → Inside a h bytes
@@ -98,46 +90,16 @@ module _ (a : Account) (h : Handle) (bytes : ℕ) where
       let rest = (unless-done (leb asked HEADROOM) TooLarge _ p.1).1 in
       (view-inside p.0, leb-true asked _ (unless-done (leb asked h.offset) NoHeadroom Done rest).0)
 
-  pub clone-inside : Full a → clone_verdict a h bytes ≡ Done → Clonable a h bytes
-  clone-inside full e =
+  pub clone-inside : clone_verdict a h bytes ≡ Done → Clonable a h bytes
+  clone-inside e =
       let d = clone-done a h bytes e in
       let inside = view-inside (then-done _ _ (sym (clone-by-view a h bytes d.0) ∙ e)).0 in
       let some = ltb-true 0 _ d.4 in
-      let (known, free) = top-known a d.0 full some in
+      let known = top-below a d.0 some in
       record {
         inside = inside;
         some = some;
         fits = leb-true h.length _ d.3;
         known = known;
         entry = rw inside.whole (entry-before _ _ _ known);
-        apart = entries-apart _ _ _ (λ same. omega (arith, free, rw same at inside.good.out));
       }
-
--- ---- a copy
-
--- a byte outside the bytes set is kept
-kept : (bytes memory : List ℕ) (at place : ℕ) → ((k : ℕ) → k < length bytes → place ≡ at + k → ⊥)
-    → get_or (sets memory at bytes) place 0 ≡ get_or memory place 0
-kept [] memory at place outside = refl
-kept (byte ∷ bytes) memory at place outside =
-    kept bytes (set memory at byte) (suc at) place (λ k below same. outside (suc k) (omega arith) (omega arith))
-    ∙ get_or-set_other memory at place byte 0 (λ same. outside 0 (omega arith) (omega arith))
-
--- one byte more is set
-sets_more : (bytes memory : List ℕ) (at byte : ℕ) → sets memory at (bytes ++ (byte ∷ [])) ≡ set (sets memory at bytes) (at + length bytes) byte
-sets_more [] memory at byte = rw add-zero
-sets_more (first ∷ bytes) memory at byte =
-    let after : at + suc (length bytes) ≡ suc at + length bytes = omega arith in
-    rw after (sets_more bytes (set memory at first) (suc at) byte)
-
-module _ (memory : List ℕ) (from i : ℕ) (inside : from + i < length memory) where
-  part-long : length (part from i memory) ≡ i
-  part-long = length-take-le i (drop from memory) (simp length-drop (omega arith))
-
-  part-more : part from (i + 1) memory ≡ part from i memory ++ (get_or memory (from + i) 0 ∷ [])
-  part-more = rw (add-one, take-suc (drop from memory) i 0 (simp length-drop (omega arith)), get_or-drop)
-
-  -- a turn of a copy: the byte that it reads is still the one that was there
-  pub copied_more : (to : ℕ) → ((k : ℕ) → k < i → from + i ≡ to + k → ⊥)
-      → set (sets memory to (part from i memory)) (to + i) (get_or (sets memory to (part from i memory)) (from + i) 0) ≡ sets memory to (part from (i + 1) memory)
-  copied_more to apart = rw (part-more, sets_more, kept (part from i memory) memory to (from + i) (rw part-long apart), part-long)

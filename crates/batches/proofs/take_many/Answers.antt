@@ -1,10 +1,12 @@
 -- `batches::take_many` meets its contract: what is left to take from here is what was to take at the start, and each turn takes one. The lists keep
 -- their lengths, so they keep their room. Assumes nothing.
 use Prim.Native.Nat.{ℕ, suc, ◌+◌, ◌-◌, ◌<◌}
-use mathlib.Core.Path.{◌≡◌, refl, sym, ◌∙◌}
+use mathlib.Core.Path.{◌≡◌, refl, sym, ap, ◌∙◌}
 use lib.ListN.{length-set}
 use native.Mathlib.Omega.{arith}
-use Rattle.rules.specs.Packets.{Taking, one_more, take_many}
+use Rattle.rules.specs.Verdict.{Done}
+use Rattle.rules.specs.Handles.{handles}
+use Rattle.rules.specs.Packets.{Taking, taken, one_more, take_many, batched}
 use Rattle.rules.proofs.Packets.{many-none, many_more}
 use Rattle.batches.proofs.take_many.Goals as goal
 
@@ -18,42 +20,36 @@ turn pool len most count w all more some e =
 pub loop-count-init : goal.loop-count-init
 loop-count-init c =
     let e : c.args.most - 0 ≡ c.args.most = omega arith in
-    (omega arith, omega arith, record { pools = refl; ids = refl; offsets = refl; lengths = refl }, rw e)
+    (omega arith, omega arith, refl, refl, record { pools = refl; ids = refl; offsets = refl; lengths = refl }, rw e)
 
-pub overflow_cast-hands : goal.overflow_cast-hands
-overflow_cast-hands c = omega (arith, c.requires.known (c.loop-count.left - 1) (omega arith))
-
-pub bounds-hands-id : goal.bounds-hands-id
-bounds-hands-id c = c.requires.known (c.loop-count.left - 1) (omega arith)
+pub take_top-handle-requires : goal.take_top-handle-requires
+take_top-handle-requires c =
+    let inv = c.loop-count.invariant in
+    (omega arith, omega (arith, c.requires.deep), rw inv.2 (c.requires.known (c.loop-count.account.free.depth - 1) (omega arith)))
 
 pub put-requires : goal.put-requires
 put-requires c = record { pools = omega arith; ids = omega arith; offsets = omega arith; lengths = omega arith }
 
 pub loop-count-preserved : goal.loop-count-preserved
+unfolding taken
 loop-count-preserved c =
     let put = c.put.ensures in
-    let inv = c.loop-count.invariant in (
+    let inv = c.loop-count.invariant in
+    let pool : c.loop-count.account.pool ≡ c.args.account.now.pool = ap (λ a. a.pool) inv.3 in
+    rw (put, c.take_top-handle.ensures.handle, c.take_top-handle.ensures.leaves) (
       omega arith,
       omega arith,
-      rw put (record { pools = simp length-set inv.2.pools; ids = simp length-set inv.2.ids; offsets = simp length-set inv.2.offsets; lengths = simp length-set inv.2.lengths }),
-      rw put (turn _ _ _ _ _ _ (omega arith) (omega arith) inv.3),
+      inv.2,
+      rw inv.3 refl,
+      record { pools = simp length-set inv.4.pools; ids = simp length-set inv.4.ids; offsets = simp length-set inv.4.offsets; lengths = simp length-set inv.4.lengths },
+      rw pool (turn _ _ _ _ _ _ (omega arith) (omega arith) inv.5),
     )
-
-pub shape_of-pools : goal.shape_of-pools
-shape_of-pools c = c.loop-count.invariant.2.pools
-
-pub shape_of-ids : goal.shape_of-ids
-shape_of-ids c = c.loop-count.invariant.2.ids
-
-pub shape_of-offsets : goal.shape_of-offsets
-shape_of-offsets c = c.loop-count.invariant.2.offsets
-
-pub shape_of-lengths : goal.shape_of-lengths
-shape_of-lengths c = c.loop-count.invariant.2.lengths
 
 pub returns : goal.returns
 returns c =
     let most = c.args.most in
     let all : c.loop-count.count ≡ most = omega arith in
     let none : most - most ≡ 0 = omega arith in
-    sym (many-none _ _ _) ∙ rw (all, none) at c.loop-count.invariant.3
+    let left = rw (all, none) at c.loop-count.invariant.5 in
+    rw (sym left, many-none)
+    (ap (λ a. batched (record { verdict = Done; count = most; account = a }) (handles c.loop-count.pools c.loop-count.ids c.loop-count.offsets c.loop-count.lengths)) (sym c.loop-count.invariant.3))

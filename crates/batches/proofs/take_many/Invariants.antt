@@ -2,8 +2,10 @@
 use Prim.Native.Nat.{◌-◌, ◌≤◌}
 use mathlib.Core.Path.{◌≡◌}
 use lib.ListN.{length}
+use Rattle.pool.specs.declared.FreeStack.{FreeStack}
 use Rattle.rules.specs.Handles.{Handles, handles}
-use Rattle.rules.specs.Packets.{take_many, taking}
+use Rattle.rules.specs.Account.{with_pool}
+use Rattle.rules.specs.Packets.{take_many, taking, taking_of}
 use Rattle.batches.proofs.take_many.Given as goal
 
 -- the lists are as long as they were
@@ -15,9 +17,8 @@ pub record Same (now before : Handles) : Type 0 where
 
 abbrev pub invariant-loop-count : goal.invariant-loop-count
 invariant-loop-count l =
-    (l.count ≤ l.most) × (l.left ≡ l.depth - l.count) × Same (handles l.pools l.ids l.offsets l.lengths) (handles l.initial.pools l.initial.ids l.initial.offsets l.initial.lengths)
-    × (take_many l.pool l.len (l.most - l.count) (taking l.stack l.left l.hands (handles l.pools l.ids l.offsets l.lengths) l.count)
-    ≡ take_many l.pool l.len l.most (taking l.stack l.depth l.initial.hands (handles l.initial.pools l.initial.ids l.initial.offsets l.initial.lengths) 0))
-
-abbrev pub decreases-loop-count : goal.decreases-loop-count
-decreases-loop-count l = l.most - l.count
+    (l.count ≤ l.most) × (l.account.free.depth ≡ l.initial.account.free.depth - l.count) × (l.account.free.ids ≡ l.initial.account.free.ids)
+    × (l.account ≡ with_pool l.initial.account l.account.free l.account.hands)
+    × Same (handles l.pools l.ids l.offsets l.lengths) (handles l.initial.pools l.initial.ids l.initial.offsets l.initial.lengths)
+    × (take_many l.initial.account.pool l.len (l.most - l.count) (taking l.account.free.ids l.account.free.depth l.account.hands (handles l.pools l.ids l.offsets l.lengths) l.count)
+    ≡ take_many l.initial.account.pool l.len l.most (taking_of l.initial.account (handles l.initial.pools l.initial.ids l.initial.offsets l.initial.lengths)))

@@ -7,7 +7,7 @@ use Rattle.rules.proofs.Facts.{bounds}
 use Rattle.memory.proofs.view_verdict.Goals as goal
 
 pub overflow_mul-account : goal.overflow_mul-account
-overflow_mul-account c = omega (arith, bounds c.args.account c.requires)
+overflow_mul-account c = omega (arith, bounds c.args.account.now c.requires)
 
 pub returns-then-bytes-account : goal.returns-then-bytes-account
 unfolding view_verdict
