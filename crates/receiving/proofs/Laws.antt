@@ -1,26 +1,56 @@
 -- What the tests of a start and of a receive give the loops: in a sound account every id on the stack and in the ring has an address.
-use Prim.Native.Nat.{ℕ, min}
+-- A place past an array's end reads 0, which is an id too: so none of this needs the arrays' lengths.
+use Prim.Native.Nat.{ℕ, ◌≤◌, ◌<◌, min}
 use mathlib.Core.Path.{◌≡◌}
 use mathlib.Core.Bool.{true}
 use mathlib.Core.List.{List}
-use lib.ListN.{length}
+use lib.ListN.{length, get_or, get_or-eq_default}
+use lib.Seq.{get_or-take}
 use lib.Dec.{eqb}
+use native.Mathlib.Decide.{dec_lt}
 use native.Mathlib.Omega.{arith}
 use borrow.Author.Tests.{eqb-true, leb-true}
 use Rattle.limits.specs.Limits.{SLOTS, RING-BYTES}
+use Rattle.laws.specs.Occurs.{occurs}
 use Rattle.laws.proofs.Test.{both_left, both_right}
+use Rattle.laws.proofs.Occurs.{occurs-at}
+use Rattle.pool.specs.Hands.{HAND-FREE, HAND-RECEIVE}
 use Rattle.rules.specs.declared.Account.{Account}
 use Rattle.rules.specs.Verdict.{Done}
 use Rattle.rules.specs.Handles.{Handles}
-use Rattle.rules.specs.Sound.{sound, Full}
+use Rattle.rules.specs.Account.{free_list, receive_list}
+use Rattle.rules.specs.Sound.{sound}
 use Rattle.rules.specs.Refusals.{rings_fit, start_verdict, receive_verdict}
-use Rattle.rules.proofs.Facts.{bounds, stack-known, slots-known}
+use Rattle.rules.proofs.Facts.{bounds}
+use Rattle.rules.proofs.Lists.{list-free, list-receive}
 use Rattle.rules.proofs.Sound.{sound-means}
 use Rattle.rules.proofs.Verdicts.{room-means}
 use Rattle.rules.proofs.Calls.{start-done, receive-done}
 use Rattle.rings.specs.Lent.{Stacked, Fillable, Receivable}
 
-module _ (a : Account) (full : Full a) (ring addresses : List ℕ) where
+-- what stands at a place of a list whose elements are below m, or is read past its end
+place-below : (l : List ℕ) (i m : ℕ) → 0 < m → ((x : ℕ) → m ≤ x → occurs x l ≡ 0) → get_or l i 0 < m
+place-below l i m some none = by-case (dec_lt i (length l)) (dec_lt (get_or l i 0) m)
+  where
+    by-case : Dec (i < length l) → Dec (get_or l i 0 < m) → get_or l i 0 < m
+    by-case _ (yes below) = below
+    by-case (yes here) (no above) = absurd (omega (arith, occurs-at l i here, none (get_or l i 0) (omega arith)))
+    by-case (no past) (no above) = rw (get_or-eq_default l 0 {n = i} (omega arith)) some
+
+module _ (a : Account) (e : sound a ≡ true) where
+  pub stack-known : (i : ℕ) → i < a.free.depth → get_or a.free.ids i 0 < a.entries
+  stack-known i l =
+      rw (get_or-take a.free.depth a.free.ids i 0 l) at
+      (place-below (free_list a) i a.entries (sound-means a e).numbers.some-entries
+      (λ x past. rw (list-free a) at ((sound-means a e).ids-below x HAND-FREE past)))
+
+  pub slots-known : a.started ≡ true → (i : ℕ) → get_or a.slots i 0 < a.entries
+  slots-known on i =
+      rw on at
+      (place-below (receive_list a) i a.entries (sound-means a e).numbers.some-entries
+      (λ x past. rw (list-receive a) at ((sound-means a e).ids-below x HAND-RECEIVE past)))
+
+module _ (a : Account) (ring addresses : List ℕ) where
   module _ (e : sound a ≡ true) (fit : rings_fit a.entries ring addresses ≡ true) where
     whole : length ring ≡ RING-BYTES
     whole = eqb-true (length ring) RING-BYTES (both_left (eqb (length ring) RING-BYTES) _ fit)
@@ -33,7 +63,7 @@ module _ (a : Account) (full : Full a) (ring addresses : List ℕ) where
         record {
           deep = omega (arith, bounds a e);
           few = omega (arith, bounds a e, one_each);
-          known = λ i l. omega (arith, stack-known a e full i l, one_each);
+          known = λ i l. omega (arith, stack-known a e i l, one_each);
         }
 
   pub fillable : (q : ℕ) → start_verdict a q ring addresses ≡ Done → Fillable a.free.ids a.free.depth addresses ring
@@ -47,7 +77,7 @@ module _ (a : Account) (full : Full a) (ring addresses : List ℕ) where
       let d = receive-done a q ring addresses n lists done in
       record {
         stacked = stacked d.0 d.1;
-        slots-known = λ i l. omega (arith, slots-known a d.0 full d.4 i l, one_each d.0 d.1);
+        slots-known = λ i l. omega (arith, slots-known a d.0 d.4 i, one_each d.0 d.1);
         place = (sound-means a d.0).rx-below;
         whole = whole d.0 d.1;
         room = room-means (min n SLOTS) lists d.2;
