@@ -9,8 +9,7 @@ ghost use Rattle.rules.specs.Handles.{handles};
 ghost use Rattle.rules.specs.Results.{says, tail_as, start_as, receive_as};
 ghost use Rattle.rules.specs.Sound.{sound};
 ghost use Rattle.rules.specs.Refusals.{start_verdict, receive_verdict};
-ghost use Rattle.rules.specs.Receive.{fill_rule, filling, started_as, start_end, start_call, tail_after, receive_rule, receiving, received_as, receive_end, receive_call};
-ghost use Rattle.rings.specs.Lent.{Fillable, Receivable};
+ghost use Rattle.rules.specs.Receive.{started_as, start_call, tail_after, received_as, receive_call};
 
 use limits::SLOTS;
 use refusals::Refusal;
@@ -44,8 +43,8 @@ pub fn start_verdict(
     Ok(())
 }
 
+// Fills the receive ring with buffers, and answers the tail.
 #[tactic(auto, unfolding(rules::specs::Receive::start_call))]
-// Fills the receive ring with buffers. Answers the tail.
 pub fn start(
     account: &mut Account,
     q: usize,
@@ -112,8 +111,8 @@ fn tail_after(count: usize, rx: usize) -> Option<usize>
     Some((rx + (SLOTS - 1)) % SLOTS)
 }
 
-#[tactic(auto, unfolding(rules::specs::Receive::receive_call))]
 // Takes up to n frames off the receive ring, into the lists.
+#[tactic(auto, unfolding(rules::specs::Receive::receive_call))]
 pub fn receive(
     account: &mut Account,
     q: usize,
