@@ -24,8 +24,7 @@ use Rattle.rules.specs.Numbers.{unless, on_verdict}
 use Rattle.rules.specs.Sound.{sound, Full, Good}
 use Rattle.rules.specs.Refusals.{take_verdict, view_verdict, clone_verdict, headroom_verdict}
 use Rattle.rules.specs.Packets.{part}
-use Rattle.rules.proofs.Facts.{Bounds, bounds}
-use Rattle.packets.proofs.Top.{top-below}
+use Rattle.rules.proofs.Facts.{Bounds, bounds, stack-known}
 use Rattle.rules.proofs.Sound.{good-means}
 use Rattle.rules.proofs.Verdicts.{not_done, unless-done}
 use Rattle.rules.proofs.Calls.{clone-done}
@@ -95,7 +94,7 @@ module _ (a : Account) (h : Handle) (bytes : ℕ) where
       let d = clone-done a h bytes e in
       let inside = view-inside (then-done _ _ (sym (clone-by-view a h bytes d.0) ∙ e)).0 in
       let some = ltb-true 0 _ d.4 in
-      let known = top-below a d.0 some in
+      let known = stack-known a d.0 (a.free.depth - 1) (omega (arith, some)) in
       record {
         inside = inside;
         some = some;

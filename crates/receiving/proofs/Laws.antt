@@ -1,5 +1,6 @@
 -- What the tests of a start and of a receive give the loops: in a sound account every id on the stack and in the ring has an address.
-use Prim.Native.Nat.{ℕ, min}
+-- A place past an array's end reads 0, which is an id too: so none of this needs the arrays' lengths.
+use Prim.Native.Nat.{ℕ, ◌≤◌, ◌<◌, min}
 use mathlib.Core.Path.{◌≡◌}
 use mathlib.Core.Bool.{true}
 use mathlib.Core.List.{List}
@@ -12,7 +13,7 @@ use Rattle.laws.proofs.Test.{both_left, both_right}
 use Rattle.rules.specs.declared.Account.{Account}
 use Rattle.rules.specs.Verdict.{Done}
 use Rattle.rules.specs.Handles.{Handles}
-use Rattle.rules.specs.Sound.{sound, Full}
+use Rattle.rules.specs.Sound.{sound}
 use Rattle.rules.specs.Refusals.{rings_fit, start_verdict, receive_verdict}
 use Rattle.rules.proofs.Facts.{bounds, stack-known, slots-known}
 use Rattle.rules.proofs.Sound.{sound-means}
@@ -20,7 +21,7 @@ use Rattle.rules.proofs.Verdicts.{room-means}
 use Rattle.rules.proofs.Calls.{start-done, receive-done}
 use Rattle.rings.specs.Lent.{Stacked, Fillable, Receivable}
 
-module _ (a : Account) (full : Full a) (ring addresses : List ℕ) where
+module _ (a : Account) (ring addresses : List ℕ) where
   module _ (e : sound a ≡ true) (fit : rings_fit a.entries ring addresses ≡ true) where
     whole : length ring ≡ RING-BYTES
     whole = eqb-true (length ring) RING-BYTES (both_left (eqb (length ring) RING-BYTES) _ fit)
@@ -33,7 +34,7 @@ module _ (a : Account) (full : Full a) (ring addresses : List ℕ) where
         record {
           deep = omega (arith, bounds a e);
           few = omega (arith, bounds a e, one_each);
-          known = λ i l. omega (arith, stack-known a e full i l, one_each);
+          known = λ i l. omega (arith, stack-known a e i l, one_each);
         }
 
   pub fillable : (q : ℕ) → start_verdict a q ring addresses ≡ Done → Fillable a.free.ids a.free.depth addresses ring
@@ -47,7 +48,7 @@ module _ (a : Account) (full : Full a) (ring addresses : List ℕ) where
       let d = receive-done a q ring addresses n lists done in
       record {
         stacked = stacked d.0 d.1;
-        slots-known = λ i l. omega (arith, slots-known a d.0 full d.4 i l, one_each d.0 d.1);
+        slots-known = λ i l. omega (arith, slots-known a d.0 d.4 i, one_each d.0 d.1);
         place = (sound-means a d.0).rx-below;
         whole = whole d.0 d.1;
         room = room-means (min n SLOTS) lists d.2;

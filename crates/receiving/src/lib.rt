@@ -6,97 +6,74 @@
 ghost use Rattle.std.specs.Prelude.{◌≡◌, true, ◌<◌};
 ghost use Rattle.limits.specs.Limits.{SLOTS};
 ghost use Rattle.rules.specs.Handles.{handles};
-ghost use Rattle.rules.specs.Account.{with_receive};
+ghost use Rattle.rules.specs.Results.{says, tail_as, start_as, receive_as};
 ghost use Rattle.rules.specs.Sound.{sound};
 ghost use Rattle.rules.specs.Refusals.{start_verdict, receive_verdict};
-ghost use Rattle.rules.specs.Receive.{fill_rule, filling, started_as, start_end, start_call, tail_after, receive_rule, receiving, received_as, receive_end, receive_call};
-ghost use Rattle.rings.specs.Lent.{Fillable, Receivable};
+ghost use Rattle.rules.specs.Receive.{started_as, start_call, tail_after, received_as, receive_call};
 
-use limits::{ENTRIES, SLOTS};
-use pool::FreeStack;
-use rules::{Account, Ended, Received, Refusal, Started, Tail, Verdict};
+use limits::SLOTS;
+use refusals::Refusal;
+use rules::{Account, Received};
 
 // ---- start
 
-// The account with another free stack and other hands, and a receive ring that has started.
-fn with_receive(
-    account: Account,
-    free: FreeStack,
-    hands: [u8; ENTRIES],
-    rx: usize,
-    slots: [u16; SLOTS],
-) -> Account
-    ensures { result ≡ with_receive account free hands rx slots }
-{
-    let mut next = account;
-    next.free = free;
-    next.hands = hands;
-    next.started = true;
-    next.rx = rx;
-    next.slots = slots;
-    next
-}
-
 // Whether the receive ring can start.
 #[tactic(auto, unfolding(rules::specs::Refusals::start_verdict))]
-pub fn start_verdict(account: Account, q: usize, ring: &[u8], addresses: &[u64]) -> Verdict
-    requires { sound account ≡ true }
-    ensures { result ≡ start_verdict account q ring.now addresses.now }
+pub fn start_verdict(
+    account: &Account,
+    q: usize,
+    ring: &[u8],
+    addresses: &[u64],
+) -> Result<(), Refusal>
+    requires { sound account.now ≡ true }
+    ensures { says result ≡ start_verdict account.now q ring.now addresses.now }
 {
     if !lists::rings_fit(account.entries, ring, addresses) {
-        return Verdict::Refused(Refusal::WrongSize);
+        return Err(Refusal::WrongSize);
     }
     if account.receives <= q {
-        return Verdict::Refused(Refusal::NoQueue);
+        return Err(Refusal::NoQueue);
     }
     if account.started {
-        return Verdict::Refused(Refusal::NotNow);
+        return Err(Refusal::NotNow);
     }
-    let free = account.free;
-    if free.depth < SLOTS {
-        return Verdict::Refused(Refusal::NoneFree);
+    if account.free.depth < SLOTS {
+        return Err(Refusal::NoneFree);
     }
-    Verdict::Done
+    Ok(())
 }
 
-// The start of a ring that can start.
-fn run_start(account: Account, ring: &mut [u8], addresses: &[u64]) -> Started
-    requires { Fillable account.free.ids account.free.depth addresses.now ring.old }
-    ensures { started_as result ring.new ≡ start_end account (fill_rule addresses.now 0 SLOTS (filling account ring.old)) }
+// Fills the receive ring with buffers, and answers the tail.
+#[tactic(auto, unfolding(rules::specs::Receive::start_call))]
+pub fn start(
+    account: &mut Account,
+    q: usize,
+    ring: &mut [u8],
+    addresses: &[u64],
+) -> Result<usize, Refusal>
+    requires { sound account.old ≡ true }
+    ensures { started_as (start_as result account.new) ring.new ≡ start_call account.old q ring.old addresses.now }
 {
-    let free = account.free;
-    let stack = free.ids;
-    let mut hands = account.hands;
-    let mut slots = account.slots;
-    let depth = rings::fill(ring, addresses, &stack, free.depth, &mut hands, &mut slots);
-    Started {
-        verdict: Verdict::Done,
-        tail: Tail::Written(SLOTS - 1),
-        account: with_receive(account, FreeStack { ids: stack, depth }, hands, 0, slots),
-    }
-}
-
-// Fills the receive ring with buffers.
-pub fn start(account: Account, q: usize, ring: &mut [u8], addresses: &[u64]) -> Started
-    requires { sound account ≡ true }
-    ensures { started_as result ring.new ≡ start_call account q ring.old addresses.now }
-{
-    let verdict = start_verdict(account, q, ring, addresses);
-    match verdict {
-        Verdict::Refused(why) => Started {
-            verdict: Verdict::Refused(why),
-            tail: Tail::Unwritten,
-            account,
-        },
-        Verdict::Done => run_start(account, ring, addresses),
-    }
+    start_verdict(account, q, ring, addresses)?;
+    account.free.depth = rings::fill(
+        ring,
+        addresses,
+        &account.free.ids,
+        account.free.depth,
+        &mut account.hands,
+        &mut account.slots,
+    );
+    account.started = true;
+    account.rx = 0;
+    Ok(SLOTS - 1)
 }
 
 // ---- receive
 
 // Whether frames can be received.
+#[tactic(auto, unfolding(rules::specs::Refusals::receive_verdict))]
 pub fn receive_verdict(
-    account: Account,
+    account: &Account,
     q: usize,
     ring: &[u8],
     addresses: &[u64],
@@ -105,93 +82,39 @@ pub fn receive_verdict(
     ids: &[u16],
     offsets: &[u16],
     lengths: &[u16],
-) -> Verdict
-    requires { sound account ≡ true }
-    ensures { result ≡ receive_verdict account q ring.now addresses.now n (handles pools.now ids.now offsets.now lengths.now) }
+) -> Result<(), Refusal>
+    requires { sound account.now ≡ true }
+    ensures { says result ≡ receive_verdict account.now q ring.now addresses.now n (handles pools.now ids.now offsets.now lengths.now) }
 {
-    if !lists::rings_fit(account.entries, ring, addresses) {
-        return Verdict::Refused(Refusal::WrongSize);
-    }
-    let room = lists::least(n, SLOTS);
-    if !lists::has_room(room, pools, ids, offsets, lengths) {
-        return Verdict::Refused(Refusal::WrongSize);
+    if !(lists::rings_fit(account.entries, ring, addresses)
+        && lists::has_room(n.min(SLOTS), pools, ids, offsets, lengths))
+    {
+        return Err(Refusal::WrongSize);
     }
     if account.receives <= q {
-        return Verdict::Refused(Refusal::NoQueue);
+        return Err(Refusal::NoQueue);
     }
     if !account.started {
-        return Verdict::Refused(Refusal::NotNow);
+        return Err(Refusal::NotNow);
     }
-    Verdict::Done
+    Ok(())
 }
 
 // The tail after a receive: the last slot taken, if any.
-fn tail_after(count: usize, rx: usize) -> Tail
+fn tail_after(count: usize, rx: usize) -> Option<usize>
     requires { rx < SLOTS }
-    ensures { result ≡ tail_after count rx }
+    ensures { tail_as result ≡ tail_after count rx }
 {
     if count == 0 {
-        return Tail::Unwritten;
+        return None;
     }
-    Tail::Written((rx + (SLOTS - 1)) % SLOTS)
-}
-
-// A receive that is not refused.
-fn run_receive(
-    account: Account,
-    ring: &mut [u8],
-    addresses: &[u64],
-    n: usize,
-    pools: &mut [u32],
-    ids: &mut [u16],
-    offsets: &mut [u16],
-    lengths: &mut [u16],
-) -> Received
-    requires { Receivable n account.free.ids account.free.depth addresses.now account.slots account.rx ring.old (handles pools.old ids.old offsets.old lengths.old) }
-    ensures { received_as result ring.new (handles pools.new ids.new offsets.new lengths.new) ≡ receive_end account (receive_rule account.pool account.size addresses.now n (receiving account ring.old (handles pools.old ids.old offsets.old lengths.old))) }
-{
-    let free = account.free;
-    let stack = free.ids;
-    let mut hands = account.hands;
-    let mut slots = account.slots;
-    let run = rings::receive(
-        account.pool,
-        account.size,
-        n,
-        ring,
-        addresses,
-        &stack,
-        free.depth,
-        &mut hands,
-        &mut slots,
-        account.rx,
-        pools,
-        ids,
-        offsets,
-        lengths,
-    );
-    let stop = run.stop;
-    let tail = tail_after(run.count, run.rx);
-    Received {
-        ended: Ended::Stopped(stop),
-        count: run.count,
-        tail,
-        account: with_receive(
-            account,
-            FreeStack {
-                ids: stack,
-                depth: run.depth,
-            },
-            hands,
-            run.rx,
-            slots,
-        ),
-    }
+    Some((rx + (SLOTS - 1)) % SLOTS)
 }
 
 // Takes up to n frames off the receive ring, into the lists.
+#[tactic(auto, unfolding(rules::specs::Receive::receive_call))]
 pub fn receive(
-    account: Account,
+    account: &mut Account,
     q: usize,
     ring: &mut [u8],
     addresses: &[u64],
@@ -200,18 +123,32 @@ pub fn receive(
     ids: &mut [u16],
     offsets: &mut [u16],
     lengths: &mut [u16],
-) -> Received
-    requires { sound account ≡ true }
-    ensures { received_as result ring.new (handles pools.new ids.new offsets.new lengths.new) ≡ receive_call account q ring.old addresses.now n (handles pools.old ids.old offsets.old lengths.old) }
+) -> Result<Received, Refusal>
+    requires { sound account.old ≡ true }
+    ensures { received_as (receive_as result account.new) ring.new (handles pools.new ids.new offsets.new lengths.new) ≡ receive_call account.old q ring.old addresses.now n (handles pools.old ids.old offsets.old lengths.old) }
 {
-    let verdict = receive_verdict(account, q, ring, addresses, n, pools, ids, offsets, lengths);
-    match verdict {
-        Verdict::Refused(why) => Received {
-            ended: Ended::Refused(why),
-            count: 0,
-            tail: Tail::Unwritten,
-            account,
-        },
-        Verdict::Done => run_receive(account, ring, addresses, n, pools, ids, offsets, lengths),
-    }
+    receive_verdict(account, q, ring, addresses, n, pools, ids, offsets, lengths)?;
+    let run = rings::receive(
+        account.pool,
+        account.size,
+        n,
+        ring,
+        addresses,
+        &account.free.ids,
+        account.free.depth,
+        &mut account.hands,
+        &mut account.slots,
+        account.rx,
+        pools,
+        ids,
+        offsets,
+        lengths,
+    );
+    account.free.depth = run.depth;
+    account.rx = run.rx;
+    Ok(Received {
+        stop: run.stop,
+        count: run.count,
+        tail: tail_after(run.count, run.rx),
+    })
 }

@@ -1,5 +1,6 @@
 // The loops over rings, on lent arrays and numbers: start, receive, cleaning, send. A host that keeps the arrays itself calls them without
-// a copy. Ported from start_rx_queue, rx_batch, clean_tx_queue and tx_batch of src/ixgbe.rs.
+// a copy. Lists of handles stay parallel slices of numbers: document 01, "Form by location", has the covered functions on those.
+// Ported from start_rx_queue, rx_batch, clean_tx_queue and tx_batch of src/ixgbe.rs.
 
 #![tactic(auto)]
 
@@ -9,16 +10,18 @@ ghost use Rattle.words.specs.Slots.{InRing};
 ghost use Rattle.pool.specs.Hands.{HAND-RECEIVE, HAND-OUT};
 ghost use Rattle.rules.specs.Handles.{handles, Room};
 ghost use Rattle.rules.specs.Account.{next_slot};
+ghost use Rattle.rules.specs.Results.{found_as};
 ghost use Rattle.rules.specs.Receive.{frame_of, filled, fill_rule, judged, found, received, receive_rule};
 ghost use Rattle.rings.specs.Lent.{Stacked, filling_as, Fillable, receiving_as, stopped_as, Receivable};
 
 use limits::{ENTRIES, SLOTS};
 use pool::{HAND_OUT, HAND_RECEIVE, Handle};
-use rules::{Found, Stop};
+use rules::Stop;
 
 // ---- the start
 
 // A slot gets the buffer at the top of the stack.
+#[tactic(auto, unfolding(rules::specs::Receive::filled))]
 fn fill_slot(
     ring: &mut [u8],
     addresses: &[u64],
@@ -38,6 +41,7 @@ fn fill_slot(
 }
 
 // Every slot of the ring gets a buffer from the top of the stack. Answers the stack's new depth.
+// The loop goes over slot numbers, not slots: `fill_rule` counts them, and each is a place of the ring too.
 pub fn fill(
     ring: &mut [u8],
     addresses: &[u64],
@@ -52,7 +56,7 @@ pub fn fill(
     let mut left = depth;
     for slot in 0..SLOTS {
         fill_slot(ring, addresses, stack, left, hands, slots, slot);
-        left = left - 1;
+        left -= 1;
     }
     left
 }
@@ -60,7 +64,7 @@ pub fn fill(
 // ---- a receive
 
 // How a receive came to its end: frames taken, why it stopped, the slot that is next, and the stack's new depth.
-#[derive(Drop)]
+#[derive(Clone, Copy)]
 pub struct Run {
     pub count: usize,
     pub stop: Stop,
@@ -69,28 +73,29 @@ pub struct Run {
 }
 
 // What a slot's status and length say.
-fn judge(size: usize, depth: usize, status: u32, len: u16) -> Found
-    ensures { result ≡ judged size depth status len }
+fn judge(size: usize, depth: usize, status: u32, len: u16) -> Result<u16, Stop>
+    ensures { found_as result ≡ judged size depth status len }
 {
     if status % 2 != 1 {
-        return Found::Nothing(Stop::NotDone);
+        return Err(Stop::NotDone);
     }
     if status / 2 % 2 != 1 {
-        return Found::Nothing(Stop::Split);
+        return Err(Stop::Split);
     }
     if size < len as usize {
-        return Found::Nothing(Stop::TooLong);
+        return Err(Stop::TooLong);
     }
     if depth == 0 {
-        return Found::Nothing(Stop::NoBuffer);
+        return Err(Stop::NoBuffer);
     }
-    Found::Frame(len)
+    Ok(len)
 }
 
 // What stands at a slot.
-fn look(ring: &[u8], slot: usize, size: usize, depth: usize) -> Found
+#[tactic(auto, unfolding(rules::specs::Receive::found))]
+fn look(ring: &[u8], slot: usize, size: usize, depth: usize) -> Result<u16, Stop>
     requires { InRing slot ring.now }
-    ensures { result ≡ found size depth slot ring.now }
+    ensures { found_as result ≡ found size depth slot ring.now }
 {
     let status = words::status(ring, slot);
     let len = words::frame_length(ring, slot);
@@ -104,8 +109,7 @@ fn swap(slots: &mut [u16; SLOTS], hands: &mut [u8; ENTRIES], slot: usize, fresh:
     ensures slot { slots.new ≡ set slots.old slot fresh }
     ensures hands { hands.new ≡ set (set hands.old (get_or slots.old slot 0) HAND-OUT) fresh HAND-RECEIVE }
 {
-    let old = slots[slot];
-    slots[slot] = fresh;
+    let old = std::mem::replace(&mut slots[slot], fresh);
     hands[old as usize] = HAND_OUT;
     hands[fresh as usize] = HAND_RECEIVE;
     old
@@ -157,6 +161,7 @@ fn take_frame(
 }
 
 // Takes up to n frames from the ring into the lists, and gives the card a free buffer for each.
+// A loop that breaks with its stop reason, as document 01, "Form by location", has it.
 pub fn receive(
     pool: u32,
     size: usize,
@@ -183,17 +188,16 @@ pub fn receive(
         if count == n {
             break Stop::Asked;
         }
-        let next = look(ring, index, size, left);
-        match next {
-            Found::Nothing(reason) => {
+        match look(ring, index, size, left) {
+            Err(reason) => {
                 break reason;
             }
-            Found::Frame(len) => {
+            Ok(len) => {
                 take_frame(
                     pool, len, ring, addresses, stack, left, hands, slots, index, pools, ids,
                     offsets, lengths, count,
                 );
-                left = left - 1;
+                left -= 1;
                 count += 1;
                 index = (index + 1) % SLOTS;
             }

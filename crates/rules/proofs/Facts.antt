@@ -2,13 +2,13 @@
 use Prim.Native.Nat.{ℕ, ◌+◌, ◌*◌, ◌%◌, ◌^◌, ◌≤◌, ◌<◌}
 use mathlib.Core.Path.{◌≡◌}
 use mathlib.Core.Bool.{true}
-use mathlib.Core.List.{◌++◌}
-use lib.ListN.{length, get_or, length-append}
+use mathlib.Core.List.{List, ◌++◌}
+use lib.ListN.{length, get_or, length-append, get_or-eq_default}
 use lib.Seq.{get_or-take, length-take-le}
 use lib.Dec.{eqb}
 use lib.Pow.{pow_mono}
 use native.Mathlib.Nat.{mul-le-mul_left, mul-le-mul}
-use native.Mathlib.Decide.{ℕ_discrete}
+use native.Mathlib.Decide.{ℕ_discrete, dec_lt}
 use native.Mathlib.Omega.{arith}
 use borrow.Author.Tests.{ne_eqb, lt-ltb, le-ltb}
 use Rattle.limits.specs.Limits.{ENTRIES, SMALLEST-SIZE, SIZE-DOUBLINGS, SLOTS}
@@ -20,7 +20,7 @@ use Rattle.pool.specs.Hands.{HAND-FREE, HAND-RECEIVE, HAND-OUT, HAND-SEND}
 use Rattle.rules.specs.declared.Account.{Account}
 use Rattle.rules.specs.Account.{hand_of, free_list, pending, send_place, send_list, list_of}
 use Rattle.rules.specs.Sound.{sound, Full}
-use Rattle.rules.proofs.Standing.{in_hand, Standing, of-hand, top-of-hand, room_for}
+use Rattle.rules.proofs.Standing.{in_hand, Standing, top-of-hand, room_for}
 use Rattle.rules.proofs.Lists.{list-free, list-receive, list-send, around-at, length-around}
 use Rattle.rules.proofs.Sound.{sound-means, count_of, standing}
 
@@ -36,6 +36,15 @@ pub record Bounds (a : Account) : Type 0 where
   pub depth-most : a.free.depth ≤ a.entries
   pub memory-most : a.entries * a.size ≤ ENTRIES * LARGEST-SIZE
 
+-- what stands at a place of a list whose elements are below m, or is read past its end
+place-below : (l : List ℕ) (i m : ℕ) → 0 < m → ((x : ℕ) → m ≤ x → occurs x l ≡ 0) → get_or l i 0 < m
+place-below l i m some none = by-case (dec_lt i (length l)) (dec_lt (get_or l i 0) m)
+  where
+    by-case : Dec (i < length l) → Dec (get_or l i 0 < m) → get_or l i 0 < m
+    by-case _ (yes below) = below
+    by-case (yes here) (no above) = absurd (omega (arith, occurs-at l i here, none (get_or l i 0) (omega arith)))
+    by-case (no past) (no above) = rw (get_or-eq_default l 0 {n = i} (omega arith)) some
+
 module _ (a : Account) (e : sound a ≡ true) where
   pub bounds : Bounds a
   bounds =
@@ -50,6 +59,21 @@ module _ (a : Account) (e : sound a ≡ true) where
         memory-most = mul-le-mul n.few-entries most;
       }
 
+  -- what stands at a place of a hand's list is an id of the account, and so is what is read past its end
+  listed-known : (hand i : ℕ) → get_or (list_of a hand) i 0 < a.entries
+  listed-known hand i = place-below (list_of a hand) i a.entries (sound-means a e).numbers.some-entries (λ x past. (sound-means a e).ids-below x hand past)
+
+  pub stack-known : (i : ℕ) → i < a.free.depth → get_or a.free.ids i 0 < a.entries
+  stack-known i l = rw (list-free a, get_or-take a.free.depth a.free.ids i 0 l) at (listed-known HAND-FREE i)
+
+  pub slots-known : a.started ≡ true → (i : ℕ) → get_or a.slots i 0 < a.entries
+  slots-known on i = rw (list-receive a, on) at (listed-known HAND-RECEIVE i)
+
+  pub sent-known : (q : ℕ) → q < a.sends → (i : ℕ) → i < pending a q → get_or a.sent (send_place q ((get_or a.clean q 0 + i) % SLOTS)) 0 < a.entries
+  sent-known q queue i l =
+      let place = ((sound-means a e).queues q queue).clean-below in
+      rw (list-send a q queue, around-at a.sent q (get_or a.clean q 0) (pending a q) i place l) at (listed-known (HAND-SEND + q) i)
+
   module _ (full : Full a) where
     -- the top of the stack is an id of the account, and free
     pub top-known : 0 < a.free.depth → (top a.free < a.entries) × (hand_of a (top a.free) ≡ HAND-FREE)
@@ -58,25 +82,6 @@ module _ (a : Account) (e : sound a ≡ true) where
     -- an id that is out leaves a place on the stack
     pub room_back : (id : ℕ) → id < a.entries → hand_of a id ≡ HAND-OUT → a.free.depth < a.entries
     room_back id known out = room_for (standing a full (sound-means a e)) id HAND-OUT known out (λ z. omega arith)
-
-    -- what stands at a place of a hand's list is an id of the account
-    listed-known : (hand i : ℕ) → (hand ≡ HAND-OUT → ⊥) → i < length (list_of a hand) → get_or (list_of a hand) i 0 < a.entries
-    listed-known hand i out l = (of-hand (standing a full (sound-means a e)) hand _ out (occurs-at (list_of a hand) i l)).0
-
-    pub stack-known : (i : ℕ) → i < a.free.depth → get_or a.free.ids i 0 < a.entries
-    stack-known i l =
-        let size = length-take-le a.free.depth a.free.ids (omega (arith, bounds, full.stack)) in
-        rw (list-free a, get_or-take a.free.depth a.free.ids i 0 l) at (listed-known HAND-FREE i (λ z. omega arith) (rw (list-free a, size) l))
-
-    pub slots-known : a.started ≡ true → (i : ℕ) → i < SLOTS → get_or a.slots i 0 < a.entries
-    slots-known on i l =
-        rw (list-receive a, on) at (listed-known HAND-RECEIVE i (λ z. omega arith) (rw (list-receive a, on) (omega (arith, full.slots))))
-
-    pub sent-known : (q : ℕ) → q < a.sends → (i : ℕ) → i < pending a q → get_or a.sent (send_place q ((get_or a.clean q 0 + i) % SLOTS)) 0 < a.entries
-    sent-known q queue i l =
-        let place = ((sound-means a e).queues q queue).clean-below in
-        rw (list-send a q queue, around-at a.sent q (get_or a.clean q 0) (pending a q) i place l) at
-        (listed-known (HAND-SEND + q) i (λ z. omega arith) (rw (list-send a q queue, length-around a.sent q (get_or a.clean q 0) (pending a q)) l))
 
     -- what is pending leaves as many places on the stack
     pub room-for-pending : (q : ℕ) → q < a.sends → a.free.depth + pending a q ≤ a.entries

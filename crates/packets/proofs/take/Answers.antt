@@ -1,5 +1,5 @@
 -- `packets::take` meets its contract: refused as its verdict says, or the top is taken. Assumes nothing.
-use Prim.Native.Nat.{◌<◌}
+use Prim.Native.Nat.{◌-◌, ◌<◌}
 use mathlib.Core.Path.{◌≡◌, sym}
 use native.Mathlib.Omega.{arith}
 use borrow.Author.Tests.{leb-true, ltb-true}
@@ -7,9 +7,8 @@ use Rattle.std.proofs.lemmas.Result.{err_from_is_err_and}
 use Rattle.rules.specs.Verdict.{Done}
 use Rattle.rules.specs.Refusals.{take_verdict}
 use Rattle.rules.specs.Packets.{take_call}
-use Rattle.rules.proofs.Facts.{Bounds, bounds}
+use Rattle.rules.proofs.Facts.{Bounds, bounds, stack-known}
 use Rattle.rules.proofs.Calls.{take_done}
-use Rattle.packets.proofs.Top.{top-below}
 use Rattle.packets.proofs.take.Goals as goal
 use Rattle.packets.proofs.take.Goals.{In_ok-take_verdict}
 
@@ -31,7 +30,7 @@ pub take_top-requires : goal.take_top-requires
 take_top-requires c = (
   some (goal.at.take_top-requires c).In_ok-take_verdict,
   omega (arith, held (goal.at.take_top-requires c).In_ok-take_verdict),
-  omega (arith, held (goal.at.take_top-requires c).In_ok-take_verdict, top-below _ (take_done _ _ (passed (goal.at.take_top-requires c).In_ok-take_verdict)).0 (some (goal.at.take_top-requires c).In_ok-take_verdict)),
+  omega (arith, held (goal.at.take_top-requires c).In_ok-take_verdict, stack-known _ (take_done _ _ (passed (goal.at.take_top-requires c).In_ok-take_verdict)).0 (c.args.account.now.free.depth - 1) (omega (arith, some (goal.at.take_top-requires c).In_ok-take_verdict))),
 )
 
 pub returns-in_err-take_verdict : goal.returns-in_err-take_verdict

@@ -1,23 +1,25 @@
--- `receiving::receive` meets its contract: refused as its verdict says, or the loop runs. Assumes nothing.
-use mathlib.Core.Path.{sym, ◌∙◌}
-use Rattle.rules.specs.Sound.{Full}
-use Rattle.rules.specs.Receive.{receive_call}
+-- `receiving::receive` meets its contract: where frames can be received, what the loop asks is there, and the account is made of what it left.
+-- Assumes nothing.
+use mathlib.Core.Path.{◌≡◌, sym, ap}
+use mathlib.Core.Bool.{true}
+use Rattle.rules.specs.Receive.{Stopping, receive_end, receive_call}
+use Rattle.rules.proofs.Receive.{receive-place}
+use Rattle.rules.proofs.Calls.{receive-done}
+use Rattle.rules.proofs.Sound.{sound-means}
 use Rattle.receiving.proofs.Laws.{receivable}
-use borrow.Author.Rules.{rules}
 use Rattle.receiving.proofs.receive.Goals as goal
-use Rattle.receiving.proofs.receive.Goals.{Start}
 
--- the account's arrays have their lengths
-full : (c : Start) → Full c.args.account
-full c = record { stack = search rules; hands = search rules; slots = search rules; sent = search rules; clean = search rules; tx = search rules }
+pub receive-run-requires : goal.receive-run-requires
+receive-run-requires c = receivable _ _ _ _ _ _ (sym c.in_ok-receive_verdict.ensures)
 
-pub run_receive-requires : goal.run_receive-requires
-run_receive-requires c = receivable _ (full (goal.at.run_receive-requires c).Start) _ _ _ _ _ (sym c.receive_verdict-verdict.ensures ∙ c.in-Done.is)
+pub tail_after-requires : goal.tail_after-requires
+tail_after-requires c =
+    rw (ap (λ (s : Stopping). s.work.rx) c.receive-run.ensures)
+    (receive-place _ _ _ _ _ (sound-means _ c.requires).rx-below)
 
-pub returns-in-Refused : goal.returns-in-Refused
+pub returns : goal.returns
 unfolding receive_call
-returns-in-Refused c = rw (sym c.receive_verdict-verdict.ensures ∙ c.in-Refused.is)
-
-pub returns-in-Done : goal.returns-in-Done
-unfolding receive_call
-returns-in-Done c = rw (sym c.receive_verdict-verdict.ensures ∙ c.in-Done.is) c.run_receive.ensures
+returns c =
+    let started : c.args.account.now.started ≡ true = (receive-done _ _ _ _ _ _ (sym c.in_ok-receive_verdict.ensures)).4 in
+    rw (sym c.in_ok-receive_verdict.ensures, started, c.tail_after.ensures)
+    (ap (receive_end c.args.account.now) c.receive-run.ensures)
