@@ -84,7 +84,7 @@ module _ (a : Account) (q : ℕ) (ring addresses : List ℕ) (lists : Handles) (
           queue = queue-below;
           place = places.clean-below;
           room = omega (arith, room-for-pending a e full q queue, bounds a e);
-          known = λ i l. omega (arith, sent-known a e full q queue i l, bounds a e);
+          known = λ i l. omega (arith, sent-known a e q queue i l, bounds a e);
         };
       }
 

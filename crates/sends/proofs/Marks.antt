@@ -27,7 +27,8 @@ use Rattle.rules.specs.Verdict.{Done, Refused}
 use Rattle.rules.specs.Handles.{Handles, handle_at}
 use Rattle.rules.specs.Sound.{is_good}
 use Rattle.rules.specs.Refusals.{sendable, handles_verdict}
-use Rattle.sends.specs.Lent.{good_in, sendable_in, marked_in, unmarked_in, GoodRun}
+use Rattle.pool.specs.Good.{good_in}
+use Rattle.sends.specs.Lent.{sendable_in, marked_in, unmarked_in, GoodRun}
 
 -- ---- what a good handle says
 

@@ -10,7 +10,7 @@ ghost use Rattle.pool.specs.Hands.{HAND-OUT};
 ghost use Rattle.rules.specs.Handles.{handles, Room};
 ghost use Rattle.rules.specs.Account.{waiting, next_slot};
 ghost use Rattle.rules.specs.Send.{give_back, clean_rule, packet_sent, send_rule};
-ghost use Rattle.sends.specs.Lent.{cleaning_as, Givable, Cleanable, good_in, marked_in, unmarked_in, GoodRun, sending_as, Described, Writable};
+ghost use Rattle.sends.specs.Lent.{cleaning_as, Givable, Cleanable, marked_in, unmarked_in, GoodRun, sending_as, Described, Writable};
 
 use limits::{ENTRIES, HEADROOM, SENDS, SLOTS};
 use pool::{HAND_FREE, HAND_OUT, HAND_SEND, Handle};
@@ -82,21 +82,6 @@ pub fn clean(
 
 // ---- the test of a list
 
-// Whether a handle is good.
-#[tactic(auto, unfolding(crate::specs::Lent::good_in))]
-fn is_good(pool: u32, entries: usize, size: usize, hands: &[u8; ENTRIES], handle: Handle) -> bool
-    requires { entries ≤ ENTRIES }
-    ensures { result ≡ good_in pool entries size hands.now handle }
-{
-    let id = handle.id as usize;
-    let offset = handle.offset as usize;
-    handle.pool == pool
-        && id < entries
-        && hands[id] == HAND_OUT
-        && (offset == 0 || offset == HEADROOM)
-        && offset + handle.length as usize <= size
-}
-
 // Marks the id of each handle that can be sent, up to the first that can't: one that is not good, or whose id has its mark already.
 fn mark_good(
     pool: u32,
@@ -114,13 +99,8 @@ fn mark_good(
     ensures marks { hands.new ≡ marked_in mark hands.old ids.now result }
 {
     for (i, id) in ids.iter().enumerate() {
-        if !is_good(
-            pool,
-            entries,
-            size,
-            hands,
-            lists::at(pools, ids, offsets, lengths, i),
-        ) {
+        let handle = lists::at(pools, ids, offsets, lengths, i);
+        if !handle.is_good(pool, entries, size, hands) {
             return i;
         }
         hands[*id as usize] = mark;

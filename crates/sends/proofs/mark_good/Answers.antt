@@ -4,7 +4,7 @@ use mathlib.Core.Path.{◌≡◌, sym, ap, ◌∙◌}
 use native.Mathlib.Omega.{arith}
 use borrow.Author.Rules.{rules}
 use Rattle.rules.specs.Handles.{handles, handle_at}
-use Rattle.sends.specs.Lent.{good_in}
+use Rattle.pool.specs.Good.{good_in}
 use Rattle.sends.proofs.Marks.{good-known, marked-none, marking-stopped, marking-more}
 use Rattle.sends.proofs.mark_good.Goals as goal
 use Rattle.sends.proofs.mark_good.Goals.{After-is_good}
