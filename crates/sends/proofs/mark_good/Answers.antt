@@ -23,7 +23,7 @@ judged : (c : After-is_good)
     → c.is_good.result
     ≡ good_in c.args.pool c.args.entries c.args.size c.loop-i.hands
     (handle_at (handles c.args.pools.now c.args.ids.now c.args.offsets.now c.args.lengths.now) c.loop-i.i)
-judged c = c.is_good.ensures ∙ ap (good_in _ _ _ _) c.at.ensures
+judged c = c.is_good.ensures ∙ ap (good_in _ _ _ _) c.at-handle.ensures
 
 pub returns-then-not-is_good-clause-run : goal.returns-then-not-is_good-clause-run
 returns-then-not-is_good-clause-run c =
