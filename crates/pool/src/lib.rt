@@ -7,7 +7,7 @@ ghost use Rattle.std.specs.Prelude.{◌≡◌, ◌<◌, ◌≤◌};
 ghost use Rattle.limits.specs.Limits.{ENTRIES};
 ghost use Rattle.pool.specs.Stack.{top, popped, pushed};
 
-// The hands that can have a buffer. Send queue q is hand HAND_SEND + q.
+// The hands that can have a buffer. Send queue q is hand HAND_SEND + q. They are bytes and no enum: an account that `sound::is_sound` refuses may hold any.
 pub const HAND_FREE: u8 = 0;
 
 pub const HAND_RECEIVE: u8 = 1;
@@ -26,6 +26,7 @@ pub struct Handle {
 }
 
 // The ids of the buffers that nobody has, in an array beside their count. The top is the last.
+// Document 01, "Form by location", has this form: ids beside a depth, popped and pushed by value.
 #[derive(Clone, Copy)]
 pub struct FreeStack {
     pub ids: [u16; limits::ENTRIES],
