@@ -1,4 +1,5 @@
 // What a call is lent. A list of handles is four parallel lists of numbers: room for so many, the handle at a place, a handle put at a place.
+// Four slices and none of handles: document 01 has the lists "over parallel number lists".
 // A ring is whole, and has one address for each entry beside it; a send ring has so many slots pending.
 
 #![tactic(auto)]
