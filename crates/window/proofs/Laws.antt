@@ -16,10 +16,7 @@ use Rattle.limits.specs.Limits.{FEWEST-RATES, MOST-RATES, CLOCK-CALLS}
 use Rattle.laws.specs.Test.{pick, both, either}
 use Rattle.laws.proofs.Test.{false-not-true, both_left, both_right, either_true}
 use Rattle.window.specs.declared.Window.{Window}
-use Rattle.window.specs.declared.Opened.{Opened}
-use Rattle.window.specs.declared.Ticked.{Ticked}
-use Rattle.window.specs.declared.Rated.{Rated}
-use Rattle.window.specs.Window.{held, total, in_range, sound, Sound, opened, new_call, tick_call, is_full, with_rate, decided_on, rated_call}
+use Rattle.window.specs.Window.{Opened, Ticked, Rated, held, total, in_range, sound, Sound, opened, new_call, tick_call, is_full, with_rate, decided_on, rated_call}
 use Rattle.window.proofs.Rates.{total-none, total-last, total-oldest, drop-later, slid-held, slid-length}
 
 -- what holds of both holds of what is picked
@@ -53,6 +50,10 @@ sound-means w e =
 
     last : both (ltb w.calls CLOCK-CALLS) (eqb w.sum (total (held w))) ≡ true
     last = both_right (ltb w.count w.range) _ rest
+
+-- the counter of a sound window
+pub sound_early : (w : Window) → sound w ≡ true → w.calls < CLOCK-CALLS
+sound_early w e = (sound-means w e).early
 
 pub means-sound : (w : Window) → Sound w → sound w ≡ true
 unfolding sound in_range
@@ -96,6 +97,9 @@ rate-some w rate s = by-case (is_full w.count w.range) refl
     by-case : (b : Bool) → is_full w.count w.range ≡ b → 0 < pick b w.count (w.count + 1)
     by-case true e = omega (arith, eqb-true (w.count + 1) w.range e)
     by-case false e = omega arith
+
+-- what is proved of a sound window before a rate is taken
+pub ruleset soundness = (sound-means, rate-some)
 
 -- what one more rate leaves: the rates held, a sound window, and the array whole
 abbrev Taken : Window → ℕ → Type 0
