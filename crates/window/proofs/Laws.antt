@@ -15,14 +15,25 @@ use lib.Dec.{eqb, ltb, leb}
 use Rattle.limits.specs.Limits.{FEWEST-RATES, MOST-RATES, CLOCK-CALLS}
 use Rattle.laws.specs.Test.{pick, both, either}
 use Rattle.laws.proofs.Test.{false-not-true, both_left, both_right, either_true}
+use Rattle.std.specs.Prelude.{Result, Ok, Err}
+use Rattle.refusals.specs.declared.Refusal.{Refusal}
+use Rattle.refusals.specs.declared.Refusal.TheVariants.{Unsound, WrongSize, NoQueue, BadHandle, TooLarge, NoneFree, NoHeadroom, NotNow, OutOfRange, Waited, OutsideMap, NoInterrupt}
+use Rattle.refusals.specs.Numbers.{refusal_number}
 use Rattle.window.specs.declared.Window.{Window}
-use Rattle.window.specs.Window.{Opened, Ticked, Rated, held, total, in_range, sound, Sound, opened, new_call, tick_call, is_full, with_rate, decided_on, rated_call}
+use Rattle.window.specs.declared.Ticked.{Ticked as TickedNow}
+use Rattle.window.specs.declared.Rated.{Rated as RatedNow}
+use Rattle.window.specs.Window.{Opened, Ticked, Rated, UNSOUND, OUT-OF-RANGE, held, total, in_range, sound, Sound, opened, no_window, opened_as, ticked_as, rated_as, new_call, tick_call, is_full, with_rate, decided_on, rated_call}
 use Rattle.window.proofs.Rates.{total-none, total-last, total-oldest, drop-later, slid-held, slid-length}
 
 -- what holds of both holds of what is picked
 pick-has : {A : Type 0} (P : A → Type 0) (b : Bool) {x y : A} → P x → P y → P (pick b x y)
 pick-has P true p q = p
 pick-has P false p q = q
+
+-- what is read of what is picked is picked of what is read
+pick-along : {A B : Type 0} (f : A → B) (b : Bool) (x y : A) → f (pick b x y) ≡ pick b (f x) (f y)
+pick-along f true x y = refl
+pick-along f false x y = refl
 
 -- ---- soundness
 
@@ -220,6 +231,111 @@ module _ (w : Window) (elapsed rate received asked : ℕ) where
   off-means after e =
       let same : after ≡ decided_on (with_rate w rate) received asked = rw e at (decision (ap (λ (r : Rated). r.decided) e)) in
       rw same (off-exactly (with_rate w rate).threshold ((with_rate w rate).sum / (with_rate w rate).count) received asked)
+
+-- the window that no set-up has made is not sound
+pub unset-unsound : sound no_window ≡ false
+unfolding opened sound in_range
+unset-unsound = refl
+
+-- ---- the results of the calls: each answer is that of one result
+
+-- no refusal has the number 0, and 1 and 9 are those of one refusal each
+numbered : (e : Refusal) → 0 < refusal_number e
+numbered Unsound = omega arith
+numbered WrongSize = omega arith
+numbered NoQueue = omega arith
+numbered (BadHandle _) = omega arith
+numbered TooLarge = omega arith
+numbered NoneFree = omega arith
+numbered NoHeadroom = omega arith
+numbered NotNow = omega arith
+numbered OutOfRange = omega arith
+numbered (Waited _) = omega arith
+numbered (OutsideMap _) = omega arith
+numbered NoInterrupt = omega arith
+
+one : (e : Refusal) → refusal_number e ≡ UNSOUND → e ≡ Unsound
+one Unsound h = refl
+one WrongSize h = absurd (omega arith)
+one NoQueue h = absurd (omega arith)
+one (BadHandle _) h = absurd (omega arith)
+one TooLarge h = absurd (omega arith)
+one NoneFree h = absurd (omega arith)
+one NoHeadroom h = absurd (omega arith)
+one NotNow h = absurd (omega arith)
+one OutOfRange h = absurd (omega arith)
+one (Waited _) h = absurd (omega arith)
+one (OutsideMap _) h = absurd (omega arith)
+one NoInterrupt h = absurd (omega arith)
+
+nine : (e : Refusal) → refusal_number e ≡ OUT-OF-RANGE → e ≡ OutOfRange
+nine Unsound h = absurd (omega arith)
+nine WrongSize h = absurd (omega arith)
+nine NoQueue h = absurd (omega arith)
+nine (BadHandle _) h = absurd (omega arith)
+nine TooLarge h = absurd (omega arith)
+nine NoneFree h = absurd (omega arith)
+nine NoHeadroom h = absurd (omega arith)
+nine NotNow h = absurd (omega arith)
+nine OutOfRange h = refl
+nine (Waited _) h = absurd (omega arith)
+nine (OutsideMap _) h = absurd (omega arith)
+nine NoInterrupt h = absurd (omega arith)
+
+-- the window for an R in range, else the refusal OutOfRange
+pub new-result : (range threshold interval : ℕ) (r : Result Window Refusal) → opened_as r ≡ new_call range threshold interval
+    → r ≡ pick (in_range range) (Ok (opened range threshold interval)) (Err OutOfRange)
+unfolding new_call
+new-result range threshold interval r e = by-case (in_range range) r e
+  where
+    by-case : (b : Bool) (r : Result Window Refusal)
+        → opened_as r ≡ pick b (record { number = 0; window = opened range threshold interval }) (record { number = OUT-OF-RANGE; window = no_window })
+        → r ≡ pick b (Ok (opened range threshold interval)) (Err OutOfRange)
+    by-case true (Ok w) e = ap Ok (ap (λ (o : Opened). o.window) e)
+    by-case true (Err f) e = absurd (omega (arith, numbered f, ap (λ (o : Opened). o.number) e))
+    by-case false (Ok w) e = absurd (omega (arith, ap (λ (o : Opened). o.number) e))
+    by-case false (Err f) e = ap Err (nine f (ap (λ (o : Opened). o.number) e))
+
+module _ (w : Window) where
+  tick-number : (tick_call w).number ≡ pick (sound w) 0 UNSOUND
+  unfolding tick_call
+  tick-number = pick-along (λ (t : Ticked). t.number) (sound w) _ _
+
+  -- the call counted for a sound window, else the refusal Unsound
+  pub tick-result : (r : Result TickedNow Refusal) → ticked_as w r ≡ tick_call w
+      → r ≡ pick (sound w) (Ok (record { looks = (tick_call w).looks; window = (tick_call w).window })) (Err Unsound)
+  tick-result r e = by-case (sound w) r (tick_call w) tick-number e
+    where
+      by-case : (b : Bool) (r : Result TickedNow Refusal) (t : Ticked) → t.number ≡ pick b 0 UNSOUND → ticked_as w r ≡ t
+          → r ≡ pick b (Ok (record { looks = t.looks; window = t.window })) (Err Unsound)
+      by-case true (Ok s) t n e = rw (← e)
+      by-case true (Err f) t n e = absurd (omega (arith, numbered f, ap (λ (o : Ticked). o.number) e))
+      by-case false (Ok s) t n e = absurd (omega (arith, ap (λ (o : Ticked). o.number) e))
+      by-case false (Err f) t n e = ap Err (one f (ap (λ (o : Ticked). o.number) e ∙ n))
+
+  module _ (elapsed rate received asked : ℕ) where
+    rated-number : (rated_call w elapsed rate received asked).number ≡ pick (sound w) 0 UNSOUND
+    unfolding rated_call
+    rated-number =
+        pick-along (λ (r : Rated). r.number) (sound w) _ _
+        ∙ ap (λ n. pick (sound w) n UNSOUND) (pick-has (λ (r : Rated). r.number ≡ 0) (ltb w.interval elapsed) refl refl)
+
+    -- the rate taken or left by a sound window, else the refusal Unsound
+    pub rated-result : (r : Result RatedNow Refusal) → rated_as w r ≡ rated_call w elapsed rate received asked
+        → r ≡ pick (sound w)
+            (Ok (record {
+              decided = (rated_call w elapsed rate received asked).decided;
+              window = (rated_call w elapsed rate received asked).window;
+            }))
+            (Err Unsound)
+    rated-result r e = by-case (sound w) r (rated_call w elapsed rate received asked) rated-number e
+      where
+        by-case : (b : Bool) (r : Result RatedNow Refusal) (t : Rated) → t.number ≡ pick b 0 UNSOUND → rated_as w r ≡ t
+            → r ≡ pick b (Ok (record { decided = t.decided; window = t.window })) (Err Unsound)
+        by-case true (Ok s) t n e = rw (← e)
+        by-case true (Err f) t n e = absurd (omega (arith, numbered f, ap (λ (o : Rated). o.number) e))
+        by-case false (Ok s) t n e = absurd (omega (arith, ap (λ (o : Rated). o.number) e))
+        by-case false (Err f) t n e = ap Err (one f (ap (λ (o : Rated). o.number) e ∙ n))
 
 -- ---- one outcome
 

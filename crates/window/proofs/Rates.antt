@@ -41,19 +41,7 @@ unfolding total
 total-last [] x = omega arith
 total-last (y ∷ l) x = omega (arith, total-last l x)
 
-module _ (rates : List ℕ) (i : ℕ) (below : i < length rates) where
-  one_more : take (i + 1) rates ≡ take i rates ++ (get_or rates i 0 ∷ [])
-  one_more = rw (add-one, take-suc rates i 0)
-
-  pub total-more : total (take (i + 1) rates) ≡ total (take i rates) + get_or rates i 0
-  total-more = rw one_more (total-last (take i rates) (get_or rates i 0))
-
 -- ---- a slide
-
-pub slid-one : (rates : List ℕ) → 0 < length rates → rates ≡ slid 1 (get_or rates 0 0) rates
-unfolding slid
-slid-one [] some = absurd (omega arith)
-slid-one (x ∷ rates) some = refl
 
 module _ (rates : List ℕ) (n : ℕ) (some : 0 < n) (few : n ≤ length rates) where
   length-kept : length (drop 1 (take n rates)) ≡ n - 1
@@ -96,25 +84,3 @@ module _ (rates : List ℕ) (n : ℕ) (some : 0 < n) (few : n ≤ length rates) 
   pub slid-length : (x : ℕ) → length (slid n x rates) ≡ length rates
   unfolding slid
   slid-length x = rw length-append (omega (arith, length-new x, length-drop n rates))
-
--- one place more: the rate past them is stored at their last
-module _ (rates : List ℕ) (i : ℕ) (some : 0 < i) (below : i < length rates) where
-  slid-next : (x : ℕ) → get_or (slid i x rates) i 0 ≡ get_or rates i 0
-  unfolding slid
-  slid-next x =
-      rw (drop-cons rates i 0 below)
-      (get_or_at (drop 1 (take i rates) ++ (x ∷ [])) (get_or rates i 0) (drop (suc i) rates) 0 i (length-new rates i some (omega arith) x))
-
-  slid-more : slid i (get_or rates i 0) rates ≡ slid (i + 1) (get_or rates i 0) rates
-  unfolding slid
-  slid-more =
-      rw (
-        slid-flat rates (i + 1) (omega arith) (omega arith) (get_or rates i 0),
-        one_more rates i below,
-        drop-later rates i some (omega arith) (get_or rates i 0),
-        add-one,
-        ← drop-cons rates i 0 below,
-      )
-
-  pub slid-step : (x : ℕ) → set (slid i x rates) (i - 1) (get_or (slid i x rates) i 0) ≡ slid (i + 1) (get_or rates i 0) rates
-  slid-step x = rw (slid-next x, slid-set rates i some (omega arith) x (get_or rates i 0)) slid-more
