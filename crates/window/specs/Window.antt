@@ -5,8 +5,8 @@ use Rattle.laws.specs.Test.{pick, both, either}
 use Rattle.window.specs.declared.Window.{Window}
 use Rattle.refusals.specs.declared.Refusal.{Refusal}
 use Rattle.refusals.specs.Numbers.{refusal_number}
-use Rattle.window.specs.declared.Ticked.{Ticked as TickedNow}
-use Rattle.window.specs.declared.Rated.{Rated as RatedNow}
+use Rattle.window.specs.declared.Ticked.{Ticked as TickedOk}
+use Rattle.window.specs.declared.Rated.{Rated as RatedOk}
 
 -- ---- what a call answers, with the table's number
 
@@ -113,7 +113,7 @@ with_calls w calls =
     }
 
 -- a tick's result as an answer: a refused one leaves the window that it was given
-abbrev pub ticked_as : Window → Result TickedNow Refusal → Ticked
+abbrev pub ticked_as : Window → Result TickedOk Refusal → Ticked
 ticked_as w (Ok t) = record { number = 0; looks = t.looks; window = t.window }
 ticked_as w (Err e) = record { number = refusal_number e; looks = false; window = w }
 
@@ -169,7 +169,7 @@ abbrev pub decided_on : Window → ℕ → ℕ → Window
 decided_on w received asked = with_on w (not (is_off w received asked))
 
 -- a rate's result as an answer: a refused one leaves the window that it was given
-abbrev pub rated_as : Window → Result RatedNow Refusal → Rated
+abbrev pub rated_as : Window → Result RatedOk Refusal → Rated
 rated_as w (Ok r) = record { number = 0; decided = r.decided; window = r.window }
 rated_as w (Err e) = record { number = refusal_number e; decided = false; window = w }
 

@@ -13,7 +13,7 @@ use refusals::Refusal;
 
 // R, the threshold and the interval in nanoseconds as they were set; whether interrupts are on; the receive calls since the clock was last
 // looked at; the sum of the rates, their count, and the rates themselves, the oldest first.
-// The count stands beside the array, since the core's memory is fixed; `sound` of specs/ speaks of windows whose count is none.
+// The count stands beside an array: the core has no heap, and `sound` of specs/ also speaks of windows whose count is past the array.
 #[derive(Clone, Copy, PartialEq, Eq, Debug)]
 pub struct Window {
     pub range: usize,
@@ -26,14 +26,14 @@ pub struct Window {
     pub rates: [u32; MOST_RATES],
 }
 
-// What a counted call answers: whether the host looks at the clock now.
+// What a counted call answers: whether the host looks at the clock now, and the window either way.
 #[derive(Clone, Copy, PartialEq, Eq, Debug)]
 pub struct Ticked {
     pub looks: bool,
     pub window: Window,
 }
 
-// What a rate answers: whether it was taken. The window says whether interrupts are on.
+// What a rate answers: whether it was taken, and the window either way, which says whether interrupts are on.
 #[derive(Clone, Copy, PartialEq, Eq, Debug)]
 pub struct Rated {
     pub decided: bool,
@@ -108,6 +108,7 @@ fn slide(mut rates: [u32; MOST_RATES], n: usize, rate: u32) -> [u32; MOST_RATES]
     rates
 }
 
+// A call takes the window by value and returns it, as document 01 has it. A refused one leaves the caller's own as it was.
 impl Window {
     // The window that no set-up has made. It is not sound: R is 0.
     pub fn unset() -> Window
