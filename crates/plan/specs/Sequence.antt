@@ -1,5 +1,5 @@
 -- The sequence of a set-up: its parts in order, each made for one queue after the other.
-use Rattle.std.specs.Prelude.{ℕ, zero, suc, ◌+◌, ◌*◌, ◌%◌, ◌/◌, ◌^◌, ◌≤◌, ◌≡◌, List, [], ◌∷◌, ◌++◌, map, eqb, length, get_or}
+use Rattle.std.specs.Prelude.{ℕ, zero, suc, ◌+◌, ◌*◌, ◌%◌, ◌/◌, ◌^◌, ◌≤◌, ◌≡◌, List, [], ◌∷◌, ◌++◌, map, eqb, length, get_or, Option, None, Some}
 use Rattle.limits.specs.Limits.{QUEUES}
 use Rattle.laws.specs.Test.{pick}
 use Rattle.card.specs.Registers.{address}
@@ -11,8 +11,6 @@ use Rattle.parts.specs.declared.Template.TheVariants.{Write, Read, Change, WaitS
 use Rattle.parts.specs.declared.Times.{Times}
 use Rattle.parts.specs.declared.Times.TheVariants.{Once, Buffer, Receive, Send, MsiQueue, MsixQueue}
 use Rattle.parts.specs.Parts.{Made, parts, PARTS, TEMPLATES}
-use Rattle.plan.specs.declared.Interrupts.{Interrupts}
-use Rattle.plan.specs.declared.Interrupts.TheVariants.{Off, Kind}
 use Rattle.plan.specs.declared.Setup.{Setup}
 use Rattle.plan.specs.declared.Item.{Item}
 use Rattle.plan.specs.declared.Item.TheVariants as item
@@ -41,11 +39,11 @@ pub record Ranged (s : Setup) : Type 0 where
 -- ---- how often a part is made
 
 -- the receive queues, if they are signalled by a kind of interrupt
-abbrev pub by_kind : ℕ → Interrupts → ℕ → ℕ
-by_kind kind Off receives = 0
-by_kind kind (Kind k) receives = pick (eqb k kind) receives 0
+abbrev pub by_kind : ℕ → Option ℕ → ℕ → ℕ
+by_kind kind None receives = 0
+by_kind kind (Some k) receives = pick (eqb k kind) receives 0
 
-abbrev pub times_of : ℕ → ℕ → Interrupts → Times → ℕ
+abbrev pub times_of : ℕ → ℕ → Option ℕ → Times → ℕ
 times_of receives sends interrupts Once = 1
 times_of receives sends interrupts Buffer = BUFFERS
 times_of receives sends interrupts Receive = receives

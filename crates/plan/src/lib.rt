@@ -14,7 +14,8 @@ use parts::{PARTS, Template, Times, Value, part_at, template_at};
 // The most rings: a receive ring and a send ring for each queue.
 pub const RINGS: usize = 2 * limits::QUEUES;
 
-// The interrupt kinds by their numbers, as VFIO has them.
+// The interrupt kinds by their numbers, as VFIO has them. A kind stays a number, and no enum of the two: document 01 refuses with 12 each kind
+// that is neither MSI nor MSI-X, so callers hand in any number.
 pub const MSI: u64 = 1;
 
 pub const MSIX: u64 = 2;
@@ -25,22 +26,15 @@ pub const BUFFERS: usize = 8;
 // The place of the wait for EEC, the card's highest register.
 pub const HIGHEST_PLACE: usize = 11;
 
-// The interrupts that are asked for: none, or a kind by its number.
-#[derive(Clone, Copy)]
-pub enum Interrupts {
-    Off,
-    Kind(u64),
-}
-
-// The numbers of a set-up: the map's length, the queues each way, the reads of a wait, the interrupts and their throttle rate, and a ring's
-// address for each queue, receive first.
+// The numbers of a set-up: the map's length, the queues each way, the reads of a wait, the kind of interrupt that is asked for (None: no
+// interrupts), their throttle rate, and a ring's address for each queue, receive first.
 #[derive(Clone, Copy)]
 pub struct Setup {
     pub map: u64,
     pub receives: usize,
     pub sends: usize,
     pub tries: usize,
-    pub interrupts: Interrupts,
+    pub interrupts: Option<u64>,
     pub rate: u32,
     pub rings: [u64; RINGS],
 }
@@ -61,21 +55,16 @@ pub enum Item {
 // ---- how often a part is made
 
 // The queues that are signalled by a kind of interrupt.
-fn by_kind(interrupts: Interrupts, receives: usize, kind: u64) -> usize
+fn by_kind(interrupts: Option<u64>, receives: usize, kind: u64) -> usize
     ensures { result ≡ by_kind kind interrupts receives }
 {
     match interrupts {
-        Interrupts::Off => 0,
-        Interrupts::Kind(k) => {
-            if k == kind {
-                return receives;
-            }
-            0
-        }
+        Some(k) if k == kind => receives,
+        _ => 0,
     }
 }
 
-fn how_often(receives: usize, sends: usize, interrupts: Interrupts, times: Times) -> usize
+fn how_often(receives: usize, sends: usize, interrupts: Option<u64>, times: Times) -> usize
     ensures { result ≡ times_of receives sends interrupts times }
 {
     match times {
