@@ -62,8 +62,8 @@ fn by_kind(interrupts: Option<u64>, receives: usize, kind: u64) -> usize
     }
 }
 
-fn how_often(setup: Setup, times: Times) -> usize
-    ensures { result ≡ times_for setup times }
+fn how_often(setup: &Setup, times: Times) -> usize
+    ensures { result ≡ times_for setup.now times }
 {
     match times {
         Times::Once => 1,
@@ -84,23 +84,15 @@ fn halves(x: u64) -> (u32, u32)
     ((x % 0x1_0000_0000) as u32, (x / 0x1_0000_0000) as u32)
 }
 
-fn first_only(queue: usize, x: u32) -> u32
-    ensures { result ≡ pick (eqb queue 0) x 0 }
-{
-    match queue {
-        0 => x,
-        _ => 0,
-    }
-}
-
 // A template's word, for a queue.
-fn word(setup: Setup, queue: usize, v: Value) -> u32
-    requires { (Ranged setup) × (queue < QUEUES) }
-    ensures { result ≡ value_of setup queue v }
+fn word(setup: &Setup, queue: usize, v: Value) -> u32
+    requires { (Ranged setup.now) × (queue < QUEUES) }
+    ensures { result ≡ value_of setup.now queue v }
 {
     match v {
         Value::Is(x) => x,
-        Value::FirstOnly(x) => first_only(queue, x),
+        Value::FirstOnly(x) if queue == 0 => x,
+        Value::FirstOnly(_) => 0,
         Value::ReceiveLow => halves(setup.rings[queue]).0,
         Value::ReceiveHigh => halves(setup.rings[queue]).1,
         Value::SendLow => halves(setup.rings[setup.receives + queue]).0,
@@ -114,9 +106,9 @@ fn word(setup: Setup, queue: usize, v: Value) -> u32
 }
 
 // A template's item, for a queue.
-fn fill(setup: Setup, queue: usize, t: Template) -> Item
-    requires { (Ranged setup) × (queue < QUEUES) }
-    ensures { result ≡ filled setup queue t }
+fn fill(setup: &Setup, queue: usize, t: Template) -> Item
+    requires { (Ranged setup.now) × (queue < QUEUES) }
+    ensures { result ≡ filled setup.now queue t }
 {
     match t {
         Template::Write(register, v) => Item::Write(register.address(queue), word(setup, queue, v)),
@@ -143,9 +135,9 @@ pub fn item_at(setup: Setup, place: usize) -> Item
     let mut left = place;
     for i in 0..PARTS {
         let Part { times, len } = part_at(i);
-        let n = how_often(setup, times) * len;
+        let n = how_often(&setup, times) * len;
         if left < n {
-            return fill(setup, left / len, template_at(i, left % len));
+            return fill(&setup, left / len, template_at(i, left % len));
         }
         left -= n;
     }
@@ -160,7 +152,7 @@ pub fn count(setup: Setup) -> usize
     let mut sum = 0;
     for i in 0..PARTS {
         let Part { times, len } = part_at(i);
-        sum += how_often(setup, times) * len;
+        sum += how_often(&setup, times) * len;
     }
     sum
 }
