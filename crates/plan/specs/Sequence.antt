@@ -2,7 +2,7 @@
 use Rattle.std.specs.Prelude.{ℕ, zero, suc, ◌+◌, ◌*◌, ◌%◌, ◌/◌, ◌^◌, ◌≤◌, ◌≡◌, List, [], ◌∷◌, ◌++◌, map, eqb, length, get_or, Option, None, Some}
 use Rattle.limits.specs.Limits.{QUEUES}
 use Rattle.laws.specs.Test.{pick}
-use Rattle.card.specs.Registers.{address}
+use Rattle.card.specs.Registers.{register_row, address}
 use Rattle.card.specs.Masks.{queue_bit, vector_clear, vector_set}
 use Rattle.parts.specs.declared.Value.{Value}
 use Rattle.parts.specs.declared.Value.TheVariants.{Is, FirstOnly, ReceiveLow, ReceiveHigh, SendLow, SendHigh, Rate, QueueBit, VectorClear, VectorZero, VectorQueue}
@@ -79,13 +79,13 @@ value_of s queue VectorQueue = vector_set 0 queue queue
 
 -- a template's item
 abbrev pub filled : Setup → ℕ → Template → Item
-filled s queue (Write row v) = item.Write (address row queue) (value_of s queue v)
-filled s queue (Read row) = item.Read (address row queue)
-filled s queue (Change row clear set) = item.Change (address row queue) (value_of s queue clear) (value_of s queue set)
-filled s queue (WaitSet row mask) = item.WaitSet (address row queue) mask
-filled s queue (WaitClear row mask) = item.WaitClear (address row queue) mask
+filled s queue (Write r v) = item.Write (address (register_row r) queue) (value_of s queue v)
+filled s queue (Read r) = item.Read (address (register_row r) queue)
+filled s queue (Change r clear set) = item.Change (address (register_row r) queue) (value_of s queue clear) (value_of s queue set)
+filled s queue (WaitSet r mask) = item.WaitSet (address (register_row r) queue) mask
+filled s queue (WaitClear r mask) = item.WaitClear (address (register_row r) queue) mask
 filled s queue (Pause ms) = item.Pause ms
-filled s queue (Link row) = item.Link (address row queue)
+filled s queue (Link r) = item.Link (address (register_row r) queue)
 
 -- ---- the sequence
 
