@@ -9,7 +9,7 @@ use native.Mathlib.Nat.{zero-mul, div-div-eq-div-mul, mod-add-div'}
 use native.Mathlib.Omega.{arith}
 use borrow.Author.Tests.{lt-ltb, ltb-true}
 use lib.Dec.{eqb, ltb}
-use lib.ListN.{length, get_or}
+use lib.ListN.{length, get_or, get_or-eq_default}
 use Rattle.laws.specs.Test.{pick}
 use Rattle.card.specs.Registers.{registers, entry, address}
 use Rattle.card.specs.Masks.{changed, link_speed}
@@ -24,7 +24,6 @@ use Rattle.startup.specs.declared.Action.TheVariants.{Read, Write, Pause, Done, 
 use Rattle.startup.specs.Machine.{SIGNALLED, number_of, in_map}
 use Rattle.service.specs.Mac.{mac_of, low_word, high_word}
 use Rattle.service.specs.Actions.{counter_actions, link_actions, mac_actions, set_mac_actions, promisc_actions, msi_actions, msix_actions, disable_actions, guarded, next, counters_call, link_call, mac_call, set_mac_call, promisc_call, enable_call, disable_call}
-use Rattle.service.proofs.Lists.{next-done}
 
 -- an item's actions, where v is the value last read; a wait has no list of its own
 abbrev actions_of : ℕ → Item → List Action
@@ -135,7 +134,7 @@ runs (disable queue) bytes made v q = rw (lt-ltb queue SIGNALLED q)
 
 -- after the last of its actions comes Done
 pub after_last : (call : Call) (bytes made v : ℕ) → Passes call → length (actions call v) ≤ made → answer call bytes made v ≡ Done
-after_last call bytes made v p h = runs call bytes made v p ∙ sym (next-done (actions call v) made h bytes)
+after_last call bytes made v p h = runs call bytes made v p ∙ rw (get_or-eq_default (actions call v) Done h)
 
 -- the register of a read or a write is in the map
 abbrev pub Inside : ℕ → Action → Type 0

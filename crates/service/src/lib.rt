@@ -6,24 +6,25 @@
 #![tactic(auto)]
 
 ghost use Rattle.std.specs.Prelude.{◌≡◌, ◌+◌, ◌*◌, ◌^◌, ◌<◌, get_or};
-ghost use Rattle.card.specs.Registers.{address, ROWS, EIMS, IVAR};
+ghost use Rattle.card.specs.Registers.{address, register_row, EIMS, IVAR};
 ghost use Rattle.card.specs.Masks.{changed, queue_bit, vector_clear, vector_set};
 ghost use Rattle.startup.specs.declared.Action.TheVariants as action;
 ghost use Rattle.startup.specs.Machine.{SIGNALLED};
 ghost use Rattle.service.specs.Mac.{mac_of, low_word, high_word};
 ghost use Rattle.service.specs.Actions.{guarded, counters_call, link_call, mac_call, set_mac_call, promisc_call, msi_actions, msix_actions, disable_actions, enable_call, disable_call};
 
+use card::Register;
 use refusals::Refusal;
 use startup::Action;
 
 // The counters in the order in which they are read.
-const COUNTERS: [usize; 6] = [
-    card::GPRC,
-    card::GPTC,
-    card::GORCL,
-    card::GORCH,
-    card::GOTCL,
-    card::GOTCH,
+const COUNTERS: [Register; 6] = [
+    Register::GPRC,
+    Register::GPTC,
+    Register::GORCL,
+    Register::GORCH,
+    Register::GOTCL,
+    Register::GOTCH,
 ];
 
 // ---- an action
@@ -40,12 +41,17 @@ fn guard(map: u64, action: Action) -> Action
     }
 }
 
-// A row's register is read.
-fn read(row: usize) -> Action
-    requires { row < ROWS }
-    ensures { result ≡ action.Read (address row 0) }
+// A register that no queue has is read, or written.
+fn read(register: Register) -> Action
+    ensures { result ≡ action.Read (address (register_row register) 0) }
 {
-    Action::Read(card::register(row, 0))
+    Action::Read(register.address(0))
+}
+
+fn write(register: Register, word: u32) -> Action
+    ensures { result ≡ action.Write (address (register_row register) 0) word }
+{
+    Action::Write(register.address(0), word)
 }
 
 // ---- counters, link, MAC address, promiscuous mode
@@ -56,7 +62,7 @@ pub fn read_counters(map: u64, made: usize) -> Action
     ensures { result ≡ counters_call map made }
 {
     match COUNTERS.get(made) {
-        Some(&row) => guard(map, read(row)),
+        Some(&register) => guard(map, read(register)),
         None => Action::Done,
     }
 }
@@ -67,7 +73,7 @@ pub fn read_link(map: u64, made: usize) -> Action
     ensures { result ≡ link_call map made }
 {
     match made {
-        0 => guard(map, read(card::LINKS)),
+        0 => guard(map, read(Register::LINKS)),
         _ => Action::Done,
     }
 }
@@ -78,8 +84,8 @@ pub fn read_mac(map: u64, made: usize) -> Action
     ensures { result ≡ mac_call map made }
 {
     match made {
-        0 => guard(map, read(card::RAL)),
-        1 => guard(map, read(card::RAH)),
+        0 => guard(map, read(Register::RAL)),
+        1 => guard(map, read(Register::RAH)),
         _ => Action::Done,
     }
 }
@@ -114,14 +120,8 @@ pub fn write_mac(map: u64, mac: [u8; 6], made: usize) -> Action
     ensures { result ≡ set_mac_call map mac made }
 {
     match made {
-        0 => guard(
-            map,
-            Action::Write(card::register(card::RAL, 0), low_word(mac)),
-        ),
-        1 => guard(
-            map,
-            Action::Write(card::register(card::RAH, 0), high_word(mac)),
-        ),
+        0 => guard(map, write(Register::RAL, low_word(mac))),
+        1 => guard(map, write(Register::RAH, high_word(mac))),
         _ => Action::Done,
     }
 }
@@ -132,14 +132,14 @@ pub fn promiscuous(map: u64, on: bool, made: usize, value: u32) -> Action
     ensures { result ≡ promisc_call map on made value }
 {
     match made {
-        0 => guard(map, read(card::FCTRL)),
+        0 => guard(map, read(Register::FCTRL)),
         1 => {
             let word = if on {
                 card::changed_word(value, 0, card::FCTRL_PROMISC)
             } else {
                 card::changed_word(value, card::FCTRL_PROMISC, 0)
             };
-            guard(map, Action::Write(card::register(card::FCTRL, 0), word))
+            guard(map, write(Register::FCTRL, word))
         }
         _ => Action::Done,
     }
@@ -152,7 +152,7 @@ fn enable_bit(queue: usize, value: u32) -> Action
     ensures { result ≡ action.Write (address EIMS 0) (changed value 0 (queue_bit queue)) }
 {
     let word = card::changed_word(value, 0, card::queue_bit(queue));
-    Action::Write(card::register(card::EIMS, 0), word)
+    write(Register::EIMS, word)
 }
 
 // A queue's IVAR with its vector.
@@ -163,7 +163,7 @@ fn set_vector(queue: usize, vector: usize, value: u32) -> Action
     let clear = card::vector_clear(0, queue);
     let set = card::vector_set(0, queue, vector as u32);
     let word = card::changed_word(value, clear, set);
-    Action::Write(card::register(card::IVAR, queue), word)
+    Action::Write(Register::IVAR.address(queue), word)
 }
 
 // The actions that enable a queue's MSI.
@@ -172,13 +172,13 @@ fn msi(queue: usize, rate: u32, made: usize, value: u32) -> Action
     ensures { result ≡ get_or (msi_actions queue rate value) made action.Done }
 {
     match made {
-        0 => Action::Read(card::register(card::IVAR, queue)),
+        0 => Action::Read(Register::IVAR.address(queue)),
         1 => set_vector(queue, 0, value),
-        2 => Action::Write(card::register(card::EIAC, 0), 0),
-        3 => Action::Write(card::register(card::EITR, queue), rate),
-        4 => Action::Write(card::register(card::EIMC, 0), card::IRQ_ALL),
-        5 => read(card::EICR),
-        6 => read(card::EIMS),
+        2 => write(Register::EIAC, 0),
+        3 => Action::Write(Register::EITR.address(queue), rate),
+        4 => write(Register::EIMC, card::IRQ_ALL),
+        5 => read(Register::EICR),
+        6 => read(Register::EIMS),
         7 => enable_bit(queue, value),
         _ => Action::Done,
     }
@@ -190,16 +190,16 @@ fn msix(queue: usize, rate: u32, made: usize, value: u32) -> Action
     ensures { result ≡ get_or (msix_actions queue rate value) made action.Done }
 {
     match made {
-        0 => read(card::GPIE),
+        0 => read(Register::GPIE),
         1 => {
             let word = card::changed_word(value, 0, card::GPIE_MSIX);
-            Action::Write(card::register(card::GPIE, 0), word)
+            write(Register::GPIE, word)
         }
-        2 => Action::Read(card::register(card::IVAR, queue)),
+        2 => Action::Read(Register::IVAR.address(queue)),
         3 => set_vector(queue, queue, value),
-        4 => Action::Write(card::register(card::EIAC, 0), card::IRQ_QUEUES),
-        5 => Action::Write(card::register(card::EITR, queue), rate),
-        6 => read(card::EIMS),
+        4 => write(Register::EIAC, card::IRQ_QUEUES),
+        5 => Action::Write(Register::EITR.address(queue), rate),
+        6 => read(Register::EIMS),
         7 => enable_bit(queue, value),
         _ => Action::Done,
     }
@@ -224,13 +224,13 @@ fn off(queue: usize, made: usize, value: u32) -> Action
 {
     let bit = card::queue_bit(queue);
     match made {
-        0 => read(card::EIMS),
+        0 => read(Register::EIMS),
         1 => {
             let word = card::changed_word(value, bit, 0);
-            Action::Write(card::register(card::EIMS, 0), word)
+            write(Register::EIMS, word)
         }
-        2 => Action::Write(card::register(card::EIMC, 0), bit),
-        3 => read(card::EICR),
+        2 => write(Register::EIMC, bit),
+        3 => read(Register::EICR),
         _ => Action::Done,
     }
 }
