@@ -3,10 +3,8 @@ use Prim.Native.Nat.{ℕ}
 use mathlib.Core.Path.{◌≡◌, refl, ap}
 use mathlib.Core.Bool.{true}
 use Rattle.rules.specs.declared.Account.{Account}
-use Rattle.rules.specs.Answers.{Kept}
-use Rattle.rules.specs.Answers.{Taken}
-use Rattle.rules.specs.Verdict.{Verdict}
-use Rattle.rules.specs.Verdict.{Done, Refused}
+use Rattle.rules.specs.Answers.{Kept, Taken}
+use Rattle.rules.specs.Verdict.{Verdict, Done, Refused}
 use Rattle.rules.specs.Refusals.{fresh_verdict}
 use Rattle.rules.specs.Sound.{sound}
 use Rattle.rules.specs.Packets.{Batched, Cloned, fresh_call}

@@ -18,8 +18,7 @@ use Rattle.laws.proofs.Occurs.{take-up_from, occurs-up_from}
 use Rattle.laws.proofs.Test.{both_left}
 use Rattle.pool.specs.declared.Handle.{Handle}
 use Rattle.rules.specs.declared.Account.{Account}
-use Rattle.rules.specs.Answers.{Kept}
-use Rattle.rules.specs.Answers.{Taken}
+use Rattle.rules.specs.Answers.{Kept, Taken}
 use Rattle.rules.specs.Verdict.{Done}
 use Rattle.rules.specs.Handles.{Handles, has_room}
 use Rattle.rules.specs.Account.{waiting, around, send_list, held, opened}

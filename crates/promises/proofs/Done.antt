@@ -11,12 +11,9 @@ use borrow.Author.Tests.{ltb-true, eqb-true}
 use Rattle.limits.specs.Limits.{RING-BYTES}
 use Rattle.laws.proofs.Test.{both_left}
 use Rattle.rules.specs.declared.Account.{Account}
-use Rattle.rules.specs.Answers.{Batch}
-use Rattle.rules.specs.Answers.{Received}
+use Rattle.rules.specs.Answers.{Batch, Received, Sent}
 use Rattle.refusals.specs.declared.Refusal.{Refusal}
-use Rattle.rules.specs.Answers.{Sent}
-use Rattle.rules.specs.Verdict.{Verdict}
-use Rattle.rules.specs.Verdict.{Done, Refused}
+use Rattle.rules.specs.Verdict.{Verdict, Done, Refused}
 use Rattle.rules.specs.Numbers.{verdict_of, on_verdict}
 use Rattle.rules.specs.Handles.{Handles, handle_at, has_room}
 use Rattle.rules.specs.Sound.{Indices, sound}

@@ -14,18 +14,13 @@ use Rattle.laws.specs.Test.{pick}
 use Rattle.laws.specs.Occurs.{up_from}
 use Rattle.words.specs.Slots.{status_at, length_at, sent_at}
 use Rattle.rules.specs.declared.Account.{Account}
-use Rattle.rules.specs.Answers.{Batch}
-use Rattle.rules.specs.Answers.{Counts}
+use Rattle.rules.specs.Answers.{Batch, Counts, Received, Sent, Started, Taken}
 use Rattle.rules.specs.Ended.{Stopped}
 use Rattle.rules.specs.Found.{Nothing}
-use Rattle.rules.specs.Answers.{Received}
 use Rattle.refusals.specs.declared.Refusal.TheVariants.{NoneFree}
-use Rattle.rules.specs.Answers.{Sent}
-use Rattle.rules.specs.Answers.{Started}
 use Rattle.rules.specs.declared.Stop.{Stop}
 use Rattle.rules.specs.declared.Stop.TheVariants.{Asked, NotDone, Split, TooLong}
 use Rattle.rules.specs.Tail.{Written}
-use Rattle.rules.specs.Answers.{Taken}
 use Rattle.rules.specs.Verdict.{Done}
 use Rattle.rules.specs.Numbers.{number, verdict_of, unless}
 use Rattle.rules.specs.Handles.{Handles, has_room}

@@ -4,6 +4,7 @@ pub mod Quiet
 pub mod Hands
 pub mod Never
 pub mod Refused
+pub mod Known
 pub mod Around
 pub mod Queues
 pub mod Done

@@ -10,15 +10,12 @@ use Rattle.limits.specs.Limits.{SLOTS, HEADROOM}
 use Rattle.laws.specs.Test.{both}
 use Rattle.pool.specs.declared.Handle.{Handle}
 use Rattle.rules.specs.declared.Account.{Account}
-use Rattle.rules.specs.Answers.{Counts}
-use Rattle.rules.specs.Answers.{Kept}
-use Rattle.rules.specs.Answers.{Taken}
-use Rattle.rules.specs.Answers.{Truncated}
+use Rattle.rules.specs.Answers.{Counts, Kept, Taken, Truncated}
 use Rattle.refusals.specs.declared.Refusal.{Refusal}
 use Rattle.refusals.specs.declared.Refusal.TheVariants.{WrongSize, NoQueue, BadHandle, TooLarge, NoneFree, NoHeadroom, NotNow}
-use Rattle.rules.specs.Verdict.{Verdict}
-use Rattle.rules.specs.Verdict.{Done, Refused}
-use Rattle.rules.specs.Numbers.{refusal_number, number, unless, on_verdict, verdict_of}
+use Rattle.rules.specs.Verdict.{Verdict, Done, Refused}
+use Rattle.refusals.specs.Numbers.{refusal_number}
+use Rattle.rules.specs.Numbers.{number, unless, on_verdict, verdict_of}
 use Rattle.rules.specs.Handles.{Handles, has_room}
 use Rattle.rules.specs.Sound.{is_good}
 use Rattle.rules.specs.Refusals.{rings_fit, memory_fits, packet_fits, batch_of, sendable, counts_verdict, take_verdict, batch_verdict, handle_verdict, view_verdict, clone_verdict, headroom_verdict, start_verdict, receive_verdict, handles_verdict, send_verdict}
@@ -96,7 +93,7 @@ module _ {a : Account} (t : History a) where
 -- ---- so no step of a history is
 
 -- an answer says what its call's tests say
-said : {A : Type 0} (say : A → Verdict) (v : Verdict) {done : A} {refused : Refusal → A} {r : A}
+pub said : {A : Type 0} (say : A → Verdict) (v : Verdict) {done : A} {refused : Refusal → A} {r : A}
     → say done ≡ Done → ((why : Refusal) → say (refused why) ≡ Refused why) → r ≡ on_verdict v done refused → say r ≡ v
 said say Done d r e = ap say e ∙ d
 said say (Refused why) d r e = ap say e ∙ r why

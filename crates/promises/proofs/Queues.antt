@@ -15,10 +15,8 @@ use Rattle.limits.specs.Limits.{SENDS, SLOTS, BATCH}
 use Rattle.laws.specs.Test.{pick}
 use Rattle.laws.proofs.Test.{both_left, both_right}
 use Rattle.rules.specs.declared.Account.{Account}
-use Rattle.rules.specs.Answers.{Kept}
-use Rattle.rules.specs.Answers.{Sent}
-use Rattle.rules.specs.Verdict.{Verdict}
-use Rattle.rules.specs.Verdict.{Done, Refused}
+use Rattle.rules.specs.Answers.{Kept, Sent}
+use Rattle.rules.specs.Verdict.{Verdict, Done, Refused}
 use Rattle.rules.specs.Numbers.{on_verdict}
 use Rattle.rules.specs.Handles.{Handles}
 use Rattle.rules.specs.Account.{pending, send_place, around, send_list, opened}

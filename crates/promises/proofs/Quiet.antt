@@ -5,9 +5,7 @@ use mathlib.Core.List.{List, []}
 use lib.ListN.{length}
 use Rattle.pool.specs.declared.Handle.{Handle}
 use Rattle.rules.specs.declared.Account.{Account}
-use Rattle.rules.specs.Answers.{Kept}
-use Rattle.rules.specs.Answers.{Sent}
-use Rattle.rules.specs.Answers.{Taken}
+use Rattle.rules.specs.Answers.{Kept, Sent, Taken}
 use Rattle.rules.specs.Handles.{Handles}
 use Rattle.rules.specs.Refusals.{take_verdict, batch_verdict, handle_verdict, clone_verdict, start_verdict, receive_verdict, send_verdict}
 use Rattle.rules.specs.Packets.{Batched, Cloned, taken, take_call, batch_call, released, release_call, clone_call}

@@ -9,10 +9,10 @@ use native.Mathlib.Omega.{arith}
 use Rattle.pool.specs.declared.Handle.{Handle}
 use Rattle.rules.specs.declared.Account.{Account}
 use Rattle.refusals.specs.declared.Refusal.{Refusal}
-use Rattle.refusals.specs.declared.Refusal.TheVariants.{Unsound, WrongSize, NoQueue, BadHandle, TooLarge, NoneFree, NoHeadroom, NotNow, OutOfRange}
-use Rattle.rules.specs.Verdict.{Verdict}
-use Rattle.rules.specs.Verdict.{Done, Refused}
-use Rattle.rules.specs.Numbers.{refusal_number, number}
+use Rattle.refusals.specs.declared.Refusal.TheVariants.{Unsound, WrongSize, NoQueue, BadHandle, TooLarge, NoneFree, NoHeadroom, NotNow, OutOfRange, Waited, OutsideMap, NoInterrupt}
+use Rattle.rules.specs.Verdict.{Verdict, Done, Refused}
+use Rattle.refusals.specs.Numbers.{refusal_number}
+use Rattle.rules.specs.Numbers.{number}
 use Rattle.rules.specs.Ended as ended
 use Rattle.rules.specs.Tail.{Unwritten}
 use Rattle.rules.specs.Handles.{Handles, no_handle}
@@ -21,8 +21,8 @@ use Rattle.rules.specs.Packets.{take_call, batch_call, release_call, truncate_ca
 use Rattle.rules.specs.Receive.{start_call, receive_call}
 use Rattle.rules.specs.Send.{send_call}
 
--- every answer is done or a number of the table
-of-table : (why : Refusal) → (1 ≤ refusal_number why) × (refusal_number why ≤ 9)
+-- every answer is done or a number of the table; Known.antt has that an account's call answers none of the registers'
+pub of-table : (why : Refusal) → (1 ≤ refusal_number why) × (refusal_number why ≤ 12)
 of-table Unsound = (omega arith, omega arith)
 of-table WrongSize = (omega arith, omega arith)
 of-table NoQueue = (omega arith, omega arith)
@@ -32,8 +32,11 @@ of-table NoneFree = (omega arith, omega arith)
 of-table NoHeadroom = (omega arith, omega arith)
 of-table NotNow = (omega arith, omega arith)
 of-table OutOfRange = (omega arith, omega arith)
+of-table (Waited register) = (omega arith, omega arith)
+of-table (OutsideMap register) = (omega arith, omega arith)
+of-table NoInterrupt = (omega arith, omega arith)
 
-pub answer-known : (v : Verdict) → (v ≡ Done) ⊎ ((1 ≤ number v) × (number v ≤ 9))
+pub answer-known : (v : Verdict) → (v ≡ Done) ⊎ ((1 ≤ number v) × (number v ≤ 12))
 answer-known Done = inl refl
 answer-known (Refused why) = inr (of-table why)
 

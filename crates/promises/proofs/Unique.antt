@@ -5,14 +5,7 @@ use mathlib.Core.Path.{◌≡◌, sym, ap, ◌∙◌}
 use mathlib.Core.List.{List}
 use Rattle.pool.specs.declared.Handle.{Handle}
 use Rattle.rules.specs.declared.Account.{Account}
-use Rattle.rules.specs.Answers.{Batch}
-use Rattle.rules.specs.Answers.{Counts}
-use Rattle.rules.specs.Answers.{Kept}
-use Rattle.rules.specs.Answers.{Received}
-use Rattle.rules.specs.Answers.{Sent}
-use Rattle.rules.specs.Answers.{Started}
-use Rattle.rules.specs.Answers.{Taken}
-use Rattle.rules.specs.Answers.{Truncated}
+use Rattle.rules.specs.Answers.{Batch, Counts, Kept, Received, Sent, Started, Taken, Truncated}
 use Rattle.rules.specs.Verdict.{Verdict}
 use Rattle.rules.specs.Handles.{Handles}
 use Rattle.rules.specs.Refusals.{view_verdict, headroom_verdict}

@@ -14,17 +14,9 @@ use Rattle.words.specs.Le.{le_at, address_plus}
 use Rattle.words.specs.Slots.{slot_at, command_of, payload_of}
 use Rattle.pool.specs.declared.Handle.{Handle}
 use Rattle.rules.specs.declared.Account.{Account}
-use Rattle.rules.specs.Answers.{Batch}
-use Rattle.rules.specs.Answers.{Counts}
+use Rattle.rules.specs.Answers.{Batch, Counts, Kept, Received, Sent, Started, Taken, Truncated}
 use Rattle.rules.specs.Found.{Frame}
-use Rattle.rules.specs.Answers.{Kept}
-use Rattle.rules.specs.Answers.{Received}
-use Rattle.rules.specs.Answers.{Sent}
-use Rattle.rules.specs.Answers.{Started}
-use Rattle.rules.specs.Answers.{Taken}
-use Rattle.rules.specs.Answers.{Truncated}
-use Rattle.rules.specs.Verdict.{Verdict}
-use Rattle.rules.specs.Verdict.{Done}
+use Rattle.rules.specs.Verdict.{Verdict, Done}
 use Rattle.rules.specs.Numbers.{verdict_of}
 use Rattle.rules.specs.Handles.{Handles, handle_at, has_room}
 use Rattle.rules.specs.Sound.{in_range, is_good, sound}

@@ -15,8 +15,7 @@ use Rattle.pool.specs.declared.Handle.{Handle}
 use Rattle.pool.specs.Hands.{HAND-OUT}
 use Rattle.rules.specs.declared.Account.{Account}
 use Rattle.rules.specs.Verdict.{Done}
-use Rattle.rules.specs.Answers.{Kept}
-use Rattle.rules.specs.Answers.{Taken}
+use Rattle.rules.specs.Answers.{Kept, Taken}
 use Rattle.rules.specs.Handles.{Handles, handle_at, has_room}
 use Rattle.rules.specs.Account.{waiting}
 use Rattle.rules.specs.Sound.{in_range, is_good, Good, sound, Sound, Full}

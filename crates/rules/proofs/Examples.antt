@@ -11,8 +11,7 @@ use Rattle.words.specs.Le.{le_at, put_le}
 use Rattle.words.specs.Slots.{slot_at, offered}
 use Rattle.rules.specs.declared.Account.{Account}
 use Rattle.rules.specs.declared.Stop.TheVariants.{NotDone, Split, TooLong}
-use Rattle.rules.specs.Found.{Found}
-use Rattle.rules.specs.Found.{Nothing, Frame}
+use Rattle.rules.specs.Found.{Found, Nothing, Frame}
 use Rattle.rules.specs.Numbers.{number}
 use Rattle.rules.specs.Handles.{Handles, has_room}
 use Rattle.rules.specs.Account.{next_slot, waiting, around, list_of, opened}

@@ -23,8 +23,7 @@ use Rattle.pool.proofs.Stack.{occurs-popped}
 use Rattle.rules.specs.declared.Account.{Account}
 use Rattle.rules.specs.declared.Stop.{Stop}
 use Rattle.rules.specs.declared.Stop.TheVariants.{Asked, NotDone, Split, TooLong, NoBuffer}
-use Rattle.rules.specs.Found.{Found}
-use Rattle.rules.specs.Found.{Nothing, Frame}
+use Rattle.rules.specs.Found.{Found, Nothing, Frame}
 use Rattle.rules.specs.Handles.{Room}
 use Rattle.rules.specs.Account.{next_slot, held, with_receive}
 use Rattle.rules.specs.Sound.{Sound, Full}

@@ -15,8 +15,7 @@ use Rattle.laws.proofs.Occurs.{occurs-at}
 use Rattle.rules.specs.declared.Account.{Account}
 use Rattle.refusals.specs.declared.Refusal.{Refusal}
 use Rattle.refusals.specs.declared.Refusal.TheVariants.{BadHandle}
-use Rattle.rules.specs.Verdict.{Verdict}
-use Rattle.rules.specs.Verdict.{Done, Refused}
+use Rattle.rules.specs.Verdict.{Verdict, Done, Refused}
 use Rattle.rules.specs.Numbers.{unless, on_verdict}
 use Rattle.rules.specs.Handles.{Handles, handle_at, has_room, Room}
 use Rattle.rules.specs.Sound.{is_good, Good}

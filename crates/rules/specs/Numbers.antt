@@ -2,12 +2,10 @@
 use Rattle.std.specs.Prelude.{ℕ, Bool, true, false}
 use Rattle.refusals.specs.declared.Refusal.{Refusal}
 use Rattle.refusals.specs.Numbers.{refusal_number}
-use Rattle.rules.specs.Verdict.{Verdict}
-use Rattle.rules.specs.Verdict.{Done, Refused}
+use Rattle.rules.specs.Verdict.{Verdict, Done, Refused}
 use Rattle.rules.specs.Ended.{Ended}
 use Rattle.rules.specs.Ended as ended
-use Rattle.rules.specs.Tail.{Tail}
-use Rattle.rules.specs.Tail.{Unwritten, Written}
+use Rattle.rules.specs.Tail.{Tail, Unwritten, Written}
 
 -- the number of a call that says so: 0 is done
 abbrev pub number : Verdict → ℕ

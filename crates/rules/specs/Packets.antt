@@ -11,11 +11,7 @@ use Rattle.pool.specs.Stack.{top, popped, pushed}
 use Rattle.pool.specs.Hands.{HAND-FREE, HAND-OUT}
 use Rattle.rules.specs.declared.Account.{Account}
 use Rattle.rules.specs.Verdict.{Done, Refused}
-use Rattle.rules.specs.Answers.{Kept}
-use Rattle.rules.specs.Answers.{Taken}
-use Rattle.rules.specs.Answers.{Batch}
-use Rattle.rules.specs.Answers.{Truncated}
-use Rattle.rules.specs.Answers.{Counts}
+use Rattle.rules.specs.Answers.{Kept, Taken, Batch, Truncated, Counts}
 use Rattle.rules.specs.Numbers.{on_verdict}
 use Rattle.rules.specs.Handles.{Handles, put_handle, no_handle}
 use Rattle.rules.specs.Account.{receive_list, waiting, opened, no_account, with_pool}

@@ -10,14 +10,11 @@ use Rattle.pool.specs.Hands.{HAND-RECEIVE, HAND-OUT}
 use Rattle.rules.specs.declared.Account.{Account}
 use Rattle.rules.specs.declared.Stop.{Stop}
 use Rattle.rules.specs.declared.Stop.TheVariants.{Asked, NotDone, Split, TooLong, NoBuffer}
-use Rattle.rules.specs.Found.{Found}
-use Rattle.rules.specs.Found.{Nothing, Frame}
+use Rattle.rules.specs.Found.{Found, Nothing, Frame}
 use Rattle.rules.specs.Ended as ended
 use Rattle.rules.specs.Verdict.{Done, Refused}
-use Rattle.rules.specs.Tail.{Tail}
-use Rattle.rules.specs.Tail.{Unwritten, Written}
-use Rattle.rules.specs.Answers.{Started}
-use Rattle.rules.specs.Answers.{Received}
+use Rattle.rules.specs.Tail.{Tail, Unwritten, Written}
+use Rattle.rules.specs.Answers.{Started, Received}
 use Rattle.rules.specs.Numbers.{on_verdict}
 use Rattle.rules.specs.Handles.{Handles, put_handle}
 use Rattle.rules.specs.Account.{next_slot, with_receive}

@@ -6,8 +6,7 @@ use Rattle.laws.specs.Occurs.{occurs}
 use Rattle.pool.specs.declared.Handle.{Handle}
 use Rattle.rules.specs.declared.Account.{Account}
 use Rattle.refusals.specs.declared.Refusal.TheVariants.{Unsound, WrongSize, NoQueue, BadHandle, TooLarge, NoneFree, NoHeadroom, NotNow, OutOfRange}
-use Rattle.rules.specs.Verdict.{Verdict}
-use Rattle.rules.specs.Verdict.{Done, Refused}
+use Rattle.rules.specs.Verdict.{Verdict, Done, Refused}
 use Rattle.rules.specs.Numbers.{unless}
 use Rattle.rules.specs.Handles.{Handles, handle_at, has_room}
 use Rattle.rules.specs.Sound.{in_range, is_good, sound}
