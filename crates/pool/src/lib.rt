@@ -8,14 +8,9 @@ ghost use Rattle.limits.specs.Limits.{ENTRIES};
 ghost use Rattle.pool.specs.Stack.{top, popped, pushed};
 ghost use Rattle.pool.specs.Good.{good_in};
 
-<<<<<<< HEAD
 use limits::{ENTRIES, HEADROOM};
 
-// The hands that can have a buffer. Send queue q is hand HAND_SEND + q. They are bytes and no enum, since an account that a caller hands in may hold
-// any byte for an id, and `sound::is_sound` has to refuse it.
-=======
 // The hands that can have a buffer. Send queue q is hand HAND_SEND + q. They are bytes and no enum: an account that `sound::is_sound` refuses may hold any.
->>>>>>> 4af3b913ad3b7e4413dbee8c6ce6d2cf500a10d5
 pub const HAND_FREE: u8 = 0;
 
 pub const HAND_RECEIVE: u8 = 1;
@@ -33,7 +28,6 @@ pub struct Handle {
     pub length: u16,
 }
 
-<<<<<<< HEAD
 impl Handle {
     // Whether a handle is good for a pool of so many entries of a size, by the record of hands.
     #[tactic(auto, unfolding(crate::specs::Good::good_in))]
@@ -52,10 +46,6 @@ impl Handle {
 }
 
 // The ids of the buffers that nobody has, the top last: an array beside its count, popped and pushed by value, as document 01 says.
-=======
-// The ids of the buffers that nobody has, in an array beside their count. The top is the last.
-// Document 01, "Form by location", has this form: ids beside a depth, popped and pushed by value.
->>>>>>> 4af3b913ad3b7e4413dbee8c6ce6d2cf500a10d5
 #[derive(Clone, Copy)]
 pub struct FreeStack {
     pub ids: [u16; ENTRIES],
