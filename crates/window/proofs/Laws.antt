@@ -1,5 +1,6 @@
 -- The window's laws: soundness both ways, a new window is sound and every call keeps it so, the rates held are at most R - 1 and the latest
--- ones, oldest first, the clock is looked at on each 4,096th call, what a decision means, and one outcome for each call.
+-- ones, oldest first, the clock is looked at on each 4,096th call, what a decision means, the one result
+-- that gives each answer, and one outcome for each call.
 use Rattle.std.proofs.Common.{ℕ, zero, suc, ◌+◌, ◌-◌, ◌/◌, ◌%◌, ◌≤◌, ◌<◌, ◌≡◌, ◌↔◌, ◌⊎◌, refl, sym, ◌∙◌, Bool, true, false, [], ◌∷◌, ◌++◌, length, drop, eqb, Result, Ok, Err, arith}
 use Rattle.std.proofs.lemmas.Bool.Decides.{nat_tests}
 use Rattle.std.proofs.lemmas.Grind.{common_steps}
@@ -48,6 +49,11 @@ new-sound range threshold interval e = grind (arith, nat_tests, range-means)
 pub refused-unsound : (range threshold interval : ℕ) → in_range range ≡ false → sound (new_call range threshold interval).window ≡ false
 unfolding new_call opened sound in_range
 refused-unsound range threshold interval e = rw e
+
+-- the window that no set-up has made is not sound
+pub unset-unsound : sound no_window ≡ false
+unfolding opened sound in_range
+unset-unsound = refl
 
 -- ---- a call counted
 
@@ -136,11 +142,6 @@ module _ (w : Window) (elapsed rate received asked : ℕ) where
       → (after.on ≡ false) ↔ ((after.threshold < after.sum / after.count) ⊎ (received ≡ asked))
   unfolding rated_call with_rate
   off-means after e = (λ h. grind (arith, nat_tests), λ h. grind (arith, nat_tests))
-
--- the window that no set-up has made is not sound
-pub unset-unsound : sound no_window ≡ false
-unfolding opened sound in_range
-unset-unsound = refl
 
 -- ---- the results of the calls: each answer is that of one result
 
