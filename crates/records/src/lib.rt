@@ -61,7 +61,7 @@ fn slot_at(rest: &[u8], at: usize) -> Option<usize>
     requires { at + 2 ≤ length rest.now }
     ensures { result ≡ slot_of at rest.now }
 {
-    let slot = words::read16(rest, at) as usize;
+    let slot = words::read(rest, at, 2) as usize;
     if SLOTS <= slot {
         return None;
     }
@@ -73,7 +73,7 @@ fn done_record(rest: &[u8]) -> Option<Record>
     ensures { result ≡ done_of rest.now }
 {
     let slot = slot_at(rest, 4)?;
-    let queue = words::read16(rest, 2) as usize;
+    let queue = words::read(rest, 2, 2) as usize;
     Some(Record::Card(Event::Done { queue, slot }))
 }
 
@@ -82,8 +82,8 @@ fn frame_record(rest: &[u8]) -> Option<Record>
     ensures { result ≡ frame_of rest.now }
 {
     let slot = slot_at(rest, 2)?;
-    let status = words::read32(rest, 4);
-    let length = words::read16(rest, 8);
+    let status = words::read(rest, 4, 4) as u32;
+    let length = words::read(rest, 8, 2) as u16;
     Some(Record::Card(Event::Frame {
         slot,
         status,
@@ -97,8 +97,8 @@ fn send_record(rest: &[u8]) -> Option<Record>
     if rest.len() < 6 {
         return None;
     }
-    let queue = words::read16(rest, 2) as usize;
-    let count = words::read16(rest, 4) as usize;
+    let queue = words::read(rest, 2, 2) as usize;
+    let count = words::read(rest, 4, 2) as usize;
     if rest.len() != 6 + 2 * count {
         return None;
     }
@@ -113,18 +113,18 @@ pub fn decode(rest: &[u8]) -> Option<Record>
     if rest.len() < 2 {
         return None;
     }
-    match (words::read16(rest, 0), rest.len()) {
+    match (words::read(rest, 0, 2), rest.len()) {
         (1, 10) => Some(Record::Fresh {
-            entries: words::read16(rest, 2) as usize,
-            size: words::read32(rest, 4) as usize,
-            sends: words::read16(rest, 8) as usize,
+            entries: words::read(rest, 2, 2) as usize,
+            size: words::read(rest, 4, 4) as usize,
+            sends: words::read(rest, 8, 2) as usize,
         }),
         (2, 2) => Some(Record::Call(Call::Start)),
-        (3, 6) => Some(Record::Call(Call::Take(words::read32(rest, 2) as usize))),
-        (4, 4) => Some(Record::Call(Call::Release(words::read16(rest, 2)))),
+        (3, 6) => Some(Record::Call(Call::Take(words::read(rest, 2, 4) as usize))),
+        (4, 4) => Some(Record::Call(Call::Release(words::read(rest, 2, 2) as u16))),
         (5, 6) => done_record(rest),
         (6, 10) => frame_record(rest),
-        (7, 6) => Some(Record::Call(Call::Receive(words::read32(rest, 2) as usize))),
+        (7, 6) => Some(Record::Call(Call::Receive(words::read(rest, 2, 4) as usize))),
         (8, _) => send_record(rest),
         _ => None,
     }
@@ -140,7 +140,7 @@ pub fn end_of(bytes: &[u8], from: usize, to: usize) -> Option<usize>
     if to - from < 2 {
         return None;
     }
-    let end = from + 2 + words::read16(bytes, from) as usize;
+    let end = from + 2 + words::read(bytes, from, 2) as usize;
     if to < end {
         return None;
     }
@@ -185,7 +185,7 @@ fn put_frame(ring: &mut [u8], slot: usize, status: u32, length: u16)
     ensures { ring.new ≡ frame_rule slot status length ring.old }
 {
     let at = slot * SLOT_BYTES;
-    words::write32(ring, at + 8, status);
+    words::write(ring, at + 8, 4, status as u64);
     ring[at + 12] = (length % 0x100) as u8;
     ring[at + 13] = (length / 0x100) as u8;
 }
