@@ -1,5 +1,5 @@
 -- A take and a release leave a sound account sound; a taken id is in its range.
-use Prim.Native.Nat.{ℕ, ◌<◌}
+use Prim.Native.Nat.{ℕ, ◌-◌, ◌<◌}
 use mathlib.Core.Path.{◌≡◌}
 use mathlib.Core.Bool.{true}
 use native.Mathlib.Omega.{arith}
@@ -12,7 +12,7 @@ use Rattle.rules.specs.Answers.{Taken}
 use Rattle.rules.specs.Sound.{sound, Full}
 use Rattle.rules.specs.Refusals.{take_verdict}
 use Rattle.rules.specs.Packets.{take_call, release_call}
-use Rattle.rules.proofs.Facts.{bounds, top-known}
+use Rattle.rules.proofs.Facts.{bounds, stack-known}
 use Rattle.rules.proofs.Sound.{sound-means, means-sound}
 use Rattle.rules.proofs.Verdicts.{not_done, verdict-holds}
 use Rattle.rules.proofs.Calls.{take_done, take-keeps, release-keeps}
@@ -30,7 +30,7 @@ module _ {a : Account} (full : Full a) (e : sound a ≡ true) where
   unfolding take_call
   taken-known size =
       verdict-holds (λ (r : Taken). r.verdict ≡ Done → r.handle.id < ENTRIES) (take_verdict a size) _ _
-      (λ done d. omega (arith, bounds a e, (top-known a e full (ltb-true 0 _ (take_done a size done).2)).0))
+      (λ done d. omega (arith, bounds a e, stack-known a e (a.free.depth - 1) (omega (arith, ltb-true 0 _ (take_done a size done).2))))
       (λ why refused d. absurd (not_done why d))
 
   -- ---- the same of what the records answer

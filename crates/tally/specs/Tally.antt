@@ -1,6 +1,7 @@
 -- Document 01, "The bench program": what each hand has, the last handle of each id, and what the records that need no ring answer. A line is the
 -- record's number and kind, then the number and the value of its answer, then what each hand has.
-use Rattle.std.specs.Prelude.{ℕ, ◌+◌, ◌-◌, List, get_or, set}
+use Rattle.std.specs.Prelude.{ℕ, ◌+◌, ◌-◌, List, get_or, set, Option, Some, None, Result, Ok, Err}
+use Rattle.refusals.specs.declared.Refusal.{Refusal}
 use Rattle.limits.specs.Limits.{SLOTS}
 use Rattle.laws.specs.Test.{pick}
 use Rattle.laws.specs.Occurs.{sum_to}
@@ -10,10 +11,11 @@ use Rattle.rules.specs.Verdict.{Verdict}
 use Rattle.rules.specs.Numbers.{number, on_verdict}
 use Rattle.rules.specs.Account.{waiting}
 use Rattle.rules.specs.Packets.{fresh_call, take_call, release_call}
+use Rattle.rules.specs.Results.{says}
 use Rattle.records.specs.declared.Record.{Record}
-use Rattle.records.specs.declared.Record.TheVariants.{Fresh, Start, Take, Release, Done, Frame, Receive, Send, Bad}
+use Rattle.records.specs.declared.Record.TheVariants.{Fresh, Card, Call}
 use Rattle.tally.specs.declared.Tally.{Tally}
-use Rattle.tally.specs.declared.Answer.{Answer}
+use Rattle.tally.specs.declared.Answer as answer
 
 -- ---- the last handle of each id
 
@@ -49,6 +51,13 @@ tally_of a =
       out = a.entries - (a.free.depth + receive_of a + pending_of a.sends a.clean a.tx);
     }
 
+-- what a record answers: document 01's number, its value, what each hand has then, and the account
+pub record Answer : Type 0 where
+  pub number : ℕ
+  pub value : ℕ
+  pub tally : Tally
+  pub account : Account
+
 abbrev pub answered_as : ℕ → ℕ → Account → Answer
 answered_as n value a = record { number = n; value = value; tally = tally_of a; account = a }
 
@@ -63,16 +72,11 @@ fresh_answer entries size sends =
     answered_as (number (fresh_call POOL entries size 1 sends).verdict) 0 (fresh_call POOL entries size 1 sends).account
 
 -- a record that is no fresh asks for no entries
-abbrev pub fresh_rule : Record → Answer
-fresh_rule (Fresh entries size sends) = fresh_answer entries size sends
-fresh_rule Start = fresh_answer 0 0 0
-fresh_rule (Take size) = fresh_answer 0 0 0
-fresh_rule (Release id) = fresh_answer 0 0 0
-fresh_rule (Done queue slot) = fresh_answer 0 0 0
-fresh_rule (Frame slot status len) = fresh_answer 0 0 0
-fresh_rule (Receive n) = fresh_answer 0 0 0
-fresh_rule (Send queue count) = fresh_answer 0 0 0
-fresh_rule Bad = fresh_answer 0 0 0
+abbrev pub fresh_rule : Option Record → Answer
+fresh_rule (Some (Fresh entries size sends)) = fresh_answer entries size sends
+fresh_rule (Some (Card event)) = fresh_answer 0 0 0
+fresh_rule (Some (Call call)) = fresh_answer 0 0 0
+fresh_rule None = fresh_answer 0 0 0
 
 -- ---- records that need no ring
 
@@ -101,3 +105,17 @@ take_answer a size m =
 unfoldable pub release_answer : Account → ℕ → Memory → Answer
 release_answer a id m =
     answered_as (number (release_call a (last_handle m id)).verdict) (value_if (release_call a (last_handle m id)).verdict id) (release_call a (last_handle m id)).account
+
+-- ---- how an answer of the code says it
+
+-- the value of a result, 0 if it is refused
+abbrev pub value_of : Result ℕ Refusal → ℕ
+value_of (Ok value) = value
+value_of (Err why) = 0
+
+abbrev pub answer_as : answer.Answer → Account → Answer
+answer_as r a = record { number = number (says r.outcome); value = value_of r.outcome; tally = r.tally; account = a }
+
+-- an answer with what the account says
+abbrev pub told : Result ℕ Refusal → Account → Answer
+told outcome a = answered_as (number (says outcome)) (value_of outcome) a

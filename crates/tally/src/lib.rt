@@ -3,22 +3,22 @@
 
 #![tactic(auto)]
 
-ghost use Rattle.std.specs.Prelude.{◌≡◌, true, ◌*◌, ◌≤◌, length};
+ghost use Rattle.std.specs.Prelude.{◌≡◌, true, ◌*◌, ◌≤◌, length, eqb};
 ghost use Rattle.limits.specs.Limits.{ENTRIES, SENDS, SLOTS};
 ghost use Rattle.laws.specs.Test.{pick};
-ghost use Rattle.rules.specs.Sound.{sound, queues_placed};
-ghost use Rattle.tally.specs.Tally.{memory_as, last_handle, pending_of, tally_of, answered_as, value_if, fresh_answer, fresh_rule, take_answered, take_answer, release_answer};
+ghost use Rattle.rules.specs.Sound.{sound, queues_placed, Full};
+ghost use Rattle.tally.specs.Tally.{memory_as, last_handle, pending_of, tally_of, told, answer_as, fresh_answer, take_answered, take_answer, release_answer};
 
 use limits::{ENTRIES, SENDS, SLOTS};
 use pool::Handle;
-use records::Record;
-use rules::{Account, Verdict};
+use refusals::Refusal;
+use rules::Account;
 
 // The pool number of the bench's account.
 pub const POOL: u32 = 0;
 
 // What each hand has.
-#[derive(Clone, Copy)]
+#[derive(Clone, Copy, PartialEq, Eq, Debug, Default)]
 pub struct Tally {
     pub free: usize,
     pub receive: usize,
@@ -26,25 +26,30 @@ pub struct Tally {
     pub out: usize,
 }
 
-// What a record answers: document 01's number, its value, what each hand has then, and the account.
+// What a record answers: its value or why it was refused, and what each hand has then.
 #[derive(Clone, Copy)]
 pub struct Answer {
-    pub number: u64,
-    pub value: usize,
+    pub outcome: Result<usize, Refusal>,
     pub tally: Tally,
-    pub account: Account,
 }
 
 // ---- what each hand has
 
+// What the type of an account says, also of one behind a reference: its arrays have their lengths. It does nothing when it runs.
+pub fn whole(account: &Account)
+    ensures { Full account.now }
+{
+    let _first = account.free.ids[0];
+}
+
 // All that the first queues have pending.
-fn all_pending(sends: usize, clean: [usize; SENDS], tx: [usize; SENDS]) -> usize
-    requires { (sends ≤ SENDS) × (queues_placed sends clean tx ≡ true) }
-    ensures { (result ≡ pending_of sends clean tx) × (result ≤ sends * SLOTS) }
+fn all_pending(sends: usize, clean: &[usize; SENDS], tx: &[usize; SENDS]) -> usize
+    requires { (sends ≤ SENDS) × (queues_placed sends clean.now tx.now ≡ true) }
+    ensures { (result ≡ pending_of sends clean.now tx.now) × (result ≤ sends * SLOTS) }
 {
     let mut all = 0;
     for q in 0..sends {
-        all = all + lists::pending(tx[q], clean[q]);
+        all += lists::pending(tx[q], clean[q]);
     }
     all
 }
@@ -57,15 +62,12 @@ fn ring_count(started: bool) -> usize
 }
 
 // What each hand of an account has, by its numbers alone.
-pub fn counted(account: Account) -> Tally
-    requires { sound account ≡ true }
-    ensures { result ≡ tally_of account }
+pub fn counted(account: &Account) -> Tally
+    requires { sound account.now ≡ true }
+    ensures { result ≡ tally_of account.now }
 {
-    let stack = account.free;
-    let free = stack.depth;
-    let clean = account.clean;
-    let tx = account.tx;
-    let send = all_pending(account.sends, clean, tx);
+    let free = account.free.depth;
+    let send = all_pending(account.sends, &account.clean, &account.tx);
     let receive = ring_count(account.started);
     Tally {
         free,
@@ -75,60 +77,34 @@ pub fn counted(account: Account) -> Tally
     }
 }
 
-// An answer with the account that it leaves.
-pub fn answered(number: u64, value: usize, account: Account) -> Answer
-    requires { sound account ≡ true }
-    ensures { result ≡ answered_as number value account }
+// An answer with what each hand of the account has.
+pub fn answered(outcome: Result<usize, Refusal>, account: &Account) -> Answer
+    requires { sound account.now ≡ true }
+    ensures { answer_as result account.now ≡ told outcome account.now }
 {
     Answer {
-        number,
-        value,
+        outcome,
         tally: counted(account),
-        account,
     }
 }
 
 // ---- a fresh account
 
-// A fresh account with one receive queue. A refused one answers no account, and nothing in any hand.
-pub fn fresh(entries: usize, size: usize, sends: usize) -> Answer
-    ensures answer { result ≡ fresh_answer entries size sends }
-    ensures keeps { result.number ≡ 0 → sound result.account ≡ true }
+// A fresh account with one receive queue takes the account's place. A refused one leaves it, and has nothing in any hand.
+pub fn fresh(account: &mut Account, entries: usize, size: usize, sends: usize) -> Answer
+    ensures answer { answer_as result (fresh_answer entries size sends).account ≡ fresh_answer entries size sends }
+    ensures leaves { account.new ≡ pick (eqb (fresh_answer entries size sends).number 0) (fresh_answer entries size sends).account account.old }
+    ensures keeps { (fresh_answer entries size sends).number ≡ 0 → sound account.new ≡ true }
 {
-    let kept = calls::fresh(POOL, entries, size, 1, sends);
-    let verdict = kept.verdict;
-    let account = kept.account;
-    match verdict {
-        Verdict::Refused(why) => Answer {
-            number: calls::refusal_number(why),
-            value: 0,
-            tally: Tally {
-                free: 0,
-                receive: 0,
-                send: 0,
-                out: 0,
-            },
-            account,
+    match calls::fresh(POOL, entries, size, 1, sends) {
+        Err(why) => Answer {
+            outcome: Err(why),
+            tally: Tally::default(),
         },
-        Verdict::Done => answered(0, 0, account),
-    }
-}
-
-// The fresh account of a record. A record that is no fresh asks for no entries, which is refused.
-pub fn fresh_from(what: Record) -> Answer
-    ensures answer { result ≡ fresh_rule what }
-    ensures keeps { result.number ≡ 0 → sound result.account ≡ true }
-{
-    match what {
-        Record::Fresh(entries, size, sends) => fresh(entries, size, sends),
-        Record::Start => fresh(0, 0, 0),
-        Record::Take(_) => fresh(0, 0, 0),
-        Record::Release(_) => fresh(0, 0, 0),
-        Record::Done(_, _) => fresh(0, 0, 0),
-        Record::Frame(_, _, _) => fresh(0, 0, 0),
-        Record::Receive(_) => fresh(0, 0, 0),
-        Record::Send(_, _) => fresh(0, 0, 0),
-        Record::Bad => fresh(0, 0, 0),
+        Ok(opened) => {
+            *account = opened;
+            answered(Ok(0), account)
+        }
     }
 }
 
@@ -140,61 +116,46 @@ pub fn last_handle(id: u16, offsets: &[u16], lengths: &[u16]) -> Handle
     ensures { result ≡ last_handle (memory_as offsets.now lengths.now) id }
 {
     let at = id as usize;
-    if at < ENTRIES {
-        return Handle {
-            pool: POOL,
-            id,
-            offset: offsets[at],
-            length: lengths[at],
-        };
-    }
+    let (offset, length) = if at < ENTRIES {
+        (offsets[at], lengths[at])
+    } else {
+        (0, 0)
+    };
     Handle {
         pool: POOL,
         id,
-        offset: 0,
-        length: 0,
+        offset,
+        length,
     }
 }
 
 // ---- records on a sound account
 
 // One packet is taken, and its handle remembered; the value is its id.
-pub fn take(account: Account, size: usize, offsets: &mut [u16], lengths: &mut [u16]) -> Answer
-    requires { (sound account ≡ true) × (length offsets.old ≡ ENTRIES) × (length lengths.old ≡ ENTRIES) }
-    ensures { take_answered result (memory_as offsets.new lengths.new) ≡ take_answer account size (memory_as offsets.old lengths.old) }
+pub fn take(account: &mut Account, size: usize, offsets: &mut [u16], lengths: &mut [u16]) -> Answer
+    requires { (sound account.old ≡ true) × (length offsets.old ≡ ENTRIES) × (length lengths.old ≡ ENTRIES) }
+    ensures { take_answered (answer_as result account.new) (memory_as offsets.new lengths.new) ≡ take_answer account.old size (memory_as offsets.old lengths.old) }
 {
-    let taken = packets::take(account, size);
-    let verdict = taken.verdict;
-    let next = taken.account;
-    match verdict {
-        Verdict::Refused(why) => answered(calls::refusal_number(why), 0, next),
-        Verdict::Done => {
-            let handle = taken.handle;
+    whole(account);
+    match packets::take(account, size) {
+        Err(why) => answered(Err(why), account),
+        Ok(handle) => {
             let at = handle.id as usize;
             offsets[at] = handle.offset;
             lengths[at] = handle.length;
-            answered(0, at, next)
+            answered(Ok(at), account)
         }
     }
 }
 
-// The value of a call that is done; 0 if it is refused.
-fn value_if(verdict: Verdict, value: usize) -> usize
-    ensures { result ≡ value_if verdict value }
-{
-    match verdict {
-        Verdict::Refused(_) => 0,
-        Verdict::Done => value,
-    }
-}
-
 // An id is released by its last handle; the value is the id.
-pub fn release(account: Account, id: u16, offsets: &[u16], lengths: &[u16]) -> Answer
-    requires { (sound account ≡ true) × (length offsets.now ≡ ENTRIES) × (length lengths.now ≡ ENTRIES) }
-    ensures { result ≡ release_answer account id (memory_as offsets.now lengths.now) }
+pub fn release(account: &mut Account, id: u16, offsets: &[u16], lengths: &[u16]) -> Answer
+    requires { (sound account.old ≡ true) × (length offsets.now ≡ ENTRIES) × (length lengths.now ≡ ENTRIES) }
+    ensures { answer_as result account.new ≡ release_answer account.old id (memory_as offsets.now lengths.now) }
 {
-    let kept = packets::release(account, last_handle(id, offsets, lengths));
-    let verdict = kept.verdict;
-    let next = kept.account;
-    answered(calls::number(verdict), value_if(verdict, id as usize), next)
+    whole(account);
+    match packets::release(account, last_handle(id, offsets, lengths)) {
+        Err(why) => answered(Err(why), account),
+        Ok(()) => answered(Ok(id as usize), account),
+    }
 }

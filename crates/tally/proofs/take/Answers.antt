@@ -1,42 +1,33 @@
 -- `tally::take` meets its contract: the taken handle is remembered, and the account is sound. Assumes nothing.
 use Prim.Native.Nat.{◌<◌}
-use mathlib.Core.Path.{◌≡◌, refl}
-use mathlib.Core.Bool.{true}
+use mathlib.Core.Path.{◌≡◌, refl, sym, ap}
 use native.Mathlib.Omega.{arith}
 use Rattle.limits.specs.Limits.{ENTRIES}
-use Rattle.rules.specs.Sound.{sound, Full}
+use Rattle.rules.specs.Answers.{Taken}
 use Rattle.tally.specs.Tally.{take_answer}
 use Rattle.tally.proofs.Keeps.{take-stays, taken-known}
-use borrow.Author.Rules.{rules}
 use Rattle.tally.proofs.take.Goals as goal
-use Rattle.tally.proofs.take.Goals.{After-take-taken, In-Done}
+use Rattle.tally.proofs.take.Goals.{In-Ok}
 
--- the account's arrays have their lengths
-full : (c : After-take-taken) → Full c.args.account
-full c = record { stack = search rules; hands = search rules; slots = search rules; sent = search rules; clean = search rules; tx = search rules }
-
-left-sound : (c : After-take-taken) → sound c.take-taken.result.account ≡ true
-left-sound c = rw c.take-taken.ensures (take-stays (full c) c.requires.0 _)
-
-known : (c : In-Done) → Full c.args.account → c.take-taken.result.handle.id < ENTRIES
-known c full-here = rw c.take-taken.ensures (taken-known full-here c.requires.0 _ (rw c.take-taken.ensures at c.in-Done.is))
+known : (c : In-Ok) → c.in-Ok.handle.id < ENTRIES
+known c = rw (ap (λ (r : Taken). r.handle.id) c.in-Ok.ensures) (taken-known c.whole.ensures c.requires.0 _ (sym (ap (λ (r : Taken). r.verdict) c.in-Ok.ensures)))
 
 pub answered-requires : goal.answered-requires
-answered-requires c = left-sound (goal.at.answered-requires c).After-take-taken
+answered-requires c = rw (ap (λ (r : Taken). r.account) c.in-Err.ensures) (take-stays c.whole.ensures c.requires.0 _)
 
 pub bounds-offsets-at : goal.bounds-offsets-at
-bounds-offsets-at c = omega (arith, known (goal.at.bounds-offsets-at c).In-Done (full (goal.at.bounds-offsets-at c).After-take-taken))
+bounds-offsets-at c = omega (arith, known (goal.at.bounds-offsets-at c).In-Ok)
 
 pub bounds-lengths-at : goal.bounds-lengths-at
-bounds-lengths-at c = omega (arith, known (goal.at.bounds-lengths-at c).In-Done (full (goal.at.bounds-lengths-at c).After-take-taken))
+bounds-lengths-at c = omega (arith, known (goal.at.bounds-lengths-at c).In-Ok)
 
-pub answered-requires-in-Done : goal.answered-requires-in-Done
-answered-requires-in-Done c = left-sound (goal.at.answered-requires-in-Done c).After-take-taken
+pub answered-requires-in-Ok : goal.answered-requires-in-Ok
+answered-requires-in-Ok c = rw (ap (λ (r : Taken). r.account) c.in-Ok.ensures) (take-stays c.whole.ensures c.requires.0 _)
 
-pub returns-in-Refused : goal.returns-in-Refused
+pub returns-in-Err : goal.returns-in-Err
 unfolding take_answer
-returns-in-Refused c = rw (c.answered.ensures, c.refusal_number.ensures, ← c.take-taken.ensures, c.in-Refused.is) refl
+returns-in-Err c = rw (c.answered.ensures, ← c.in-Err.ensures) refl
 
-pub returns-in-Done : goal.returns-in-Done
+pub returns-in-Ok : goal.returns-in-Ok
 unfolding take_answer
-returns-in-Done c = rw (c.answered-in-Done.ensures, ← c.take-taken.ensures, c.in-Done.is) refl
+returns-in-Ok c = rw (c.answered-in-Ok.ensures, ← c.in-Ok.ensures) refl
