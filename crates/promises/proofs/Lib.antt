@@ -13,4 +13,5 @@ pub mod Written
 pub mod Examples
 pub mod Versions
 pub mod Unique
+pub mod OneResult
 pub mod Promises
