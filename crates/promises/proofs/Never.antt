@@ -1,24 +1,17 @@
 -- No call of a history is refused with 1. Only the first test of a call gives that number, and the account of a history is sound.
-use Prim.Native.Nat.{ℕ, zero, suc, ◌+◌, min}
+use Prim.Native.Nat.{ℕ, zero, suc, ◌+◌}
 use mathlib.Core.Path.{◌≡◌, refl, ap, ◌∙◌}
-use mathlib.Core.Bool.{Bool, true, false, not}
 use mathlib.Core.List.{List}
 use lib.ListN.{length}
-use lib.Dec.{ltb, leb}
 use native.Mathlib.Omega.{arith}
-use Rattle.limits.specs.Limits.{SLOTS, HEADROOM}
-use Rattle.laws.specs.Test.{both}
 use Rattle.pool.specs.declared.Handle.{Handle}
 use Rattle.rules.specs.declared.Account.{Account}
 use Rattle.rules.specs.Answers.{Counts, Kept, Taken, Truncated}
 use Rattle.refusals.specs.declared.Refusal.{Refusal}
-use Rattle.refusals.specs.declared.Refusal.TheVariants.{WrongSize, NoQueue, BadHandle, TooLarge, NoneFree, NoHeadroom, NotNow}
 use Rattle.rules.specs.Verdict.{Verdict, Done, Refused}
-use Rattle.refusals.specs.Numbers.{refusal_number}
-use Rattle.rules.specs.Numbers.{number, unless, on_verdict, verdict_of}
-use Rattle.rules.specs.Handles.{Handles, has_room}
-use Rattle.rules.specs.Sound.{is_good}
-use Rattle.rules.specs.Refusals.{rings_fit, memory_fits, packet_fits, batch_of, sendable, counts_verdict, take_verdict, batch_verdict, handle_verdict, view_verdict, clone_verdict, headroom_verdict, start_verdict, receive_verdict, handles_verdict, send_verdict}
+use Rattle.rules.specs.Numbers.{number, on_verdict, verdict_of}
+use Rattle.rules.specs.Handles.{Handles}
+use Rattle.rules.specs.Refusals.{counts_verdict, take_verdict, batch_verdict, handle_verdict, view_verdict, clone_verdict, headroom_verdict, start_verdict, receive_verdict, handles_verdict, send_verdict}
 use Rattle.rules.specs.Packets.{Batched, Cloned, counts_call, take_call, batch_call, release_call, truncate_call, clone_call}
 use Rattle.rules.specs.Receive.{AfterStart, AfterReceive, start_call, receive_call}
 use Rattle.rules.specs.Send.{AfterSend, send_call}
@@ -26,10 +19,11 @@ use Rattle.promises.specs.History.{Step, History, verdict_by}
 use Rattle.promises.specs.History as h
 use Rattle.promises.proofs.Always.{always-sound}
 
-handles-other : (a : Account) (lists : Handles) (i n : ℕ) → number (handles_verdict a lists i n) ≡ 1 → ⊥
+-- the handles of a send, from a place on
+handles-not-1 : (a : Account) (lists : Handles) (i n : ℕ) → number (handles_verdict a lists i n) ≡ 1 → ⊥
 unfolding handles_verdict
-handles-other a lists i zero = grind arith
-handles-other a lists i (suc n) = grind (arith, handles-other a lists (i + 1) n)
+handles-not-1 a lists i zero = grind arith
+handles-not-1 a lists i (suc n) = grind (arith, handles-not-1 a lists (i + 1) n)
 
 module _ {a : Account} (t : History a) where
   pub counts-not-1 : number (counts_verdict a) ≡ 1 → ⊥
@@ -72,7 +66,7 @@ module _ {a : Account} (t : History a) where
 
     pub send-not-1 : (lists : Handles) → number (send_verdict a q ring addresses lists) ≡ 1 → ⊥
     unfolding send_verdict
-    send-not-1 lists = grind (arith, always-sound t, handles-other a lists 0 (length lists.ids))
+    send-not-1 lists = grind (arith, always-sound t, handles-not-1 a lists 0 (length lists.ids))
 
 -- ---- so no step of a history is
 

@@ -1,6 +1,6 @@
--- From the calls' contracts to the histories. A call's contract says of its Result, and of the account that it leaves, what Results.antt of the
--- rules makes an answer of. So a call is a step of the history that says what the Result says, and an Err left all that was lent as it
--- was. (A view and a headroom have the history's own equation; Unique.antt has that one Result alone meets a contract.)
+-- From the calls' contracts to the histories. A contract makes an answer of the call's Result and of the account that it leaves
+-- (rules/specs/Results.antt), and its equation is the step's. So a call is a step of the history that says what the Result says, and an Err
+-- left all that was lent as it was. A view and a headroom have the step's equation as it is.
 use Prim.Native.Nat.{ℕ}
 use mathlib.Core.Path.{◌≡◌, refl, ap, sym, ◌∙◌}
 use mathlib.Core.List.{List}
@@ -12,8 +12,8 @@ use Rattle.rules.specs.declared.Account.{Account}
 use Rattle.rules.specs.declared.Counts as counts
 use Rattle.rules.specs.declared.Received as received
 use Rattle.rules.specs.declared.Sent as sent
-use Rattle.rules.specs.Verdict.{Verdict, Done, Refused}
-use Rattle.rules.specs.Numbers.{on_verdict, verdict_of}
+use Rattle.rules.specs.Verdict.{Verdict}
+use Rattle.rules.specs.Numbers.{verdict_of}
 use Rattle.rules.specs.Answers.{Kept, Taken}
 use Rattle.rules.specs.Handles.{Handles}
 use Rattle.rules.specs.Refusals.{take_verdict, batch_verdict, handle_verdict, clone_verdict, start_verdict, receive_verdict, send_verdict}
