@@ -7,10 +7,11 @@ use native.Mathlib.Omega.{arith}
 use Rattle.pool.specs.declared.Handle.{Handle}
 use Rattle.rules.specs.declared.Account.{Account}
 use Rattle.refusals.specs.declared.Refusal.{Refusal}
-use Rattle.refusals.specs.declared.Refusal.TheVariants.{Unsound, WrongSize, NoQueue, BadHandle, TooLarge, NoneFree, NoHeadroom, NotNow, OutOfRange}
+use Rattle.refusals.specs.declared.Refusal.TheVariants.{Unsound, WrongSize, NoQueue, BadHandle, TooLarge, NoneFree, NoHeadroom, NotNow, OutOfRange, Waited, OutsideMap, NoInterrupt}
 use Rattle.rules.specs.Verdict.{Verdict}
 use Rattle.rules.specs.Verdict.{Done, Refused}
-use Rattle.rules.specs.Numbers.{refusal_number, number, on_verdict}
+use Rattle.refusals.specs.Numbers.{refusal_number}
+use Rattle.rules.specs.Numbers.{number, on_verdict}
 use Rattle.rules.specs.Refusals.{view_verdict, headroom_verdict}
 use Rattle.rules.specs.Packets.{place_of, Lent, within, no_part, view_call, headroom_call}
 
@@ -25,6 +26,9 @@ not-zero NoneFree e = omega arith
 not-zero NoHeadroom e = omega arith
 not-zero NotNow e = omega arith
 not-zero OutOfRange e = omega arith
+not-zero (Waited register) e = omega arith
+not-zero (OutsideMap register) e = omega arith
+not-zero NoInterrupt e = omega arith
 
 -- what a call leaves by its number
 zero-done : {A : Type 0} (v : Verdict) (done : A) (refused : Refusal → A) → number v ≡ 0 → on_verdict v done refused ≡ done

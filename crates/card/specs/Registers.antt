@@ -2,6 +2,8 @@
 -- A register's section is the datasheet's; where it has an alias address, the Rust's choice is taken, and the line says so.
 use Rattle.std.specs.Prelude.{ℕ, ◌+◌, ◌*◌, ◌/◌, List, [], ◌∷◌, eqb, ltb, get_or}
 use Rattle.laws.specs.Test.{pick}
+use Rattle.card.specs.declared.Register.{Register}
+use Rattle.card.specs.declared.Register.TheVariants as register
 
 -- the registers
 abbrev pub ROWS : ℕ
@@ -256,6 +258,55 @@ GOTCL = 43
 -- bytes sent, high
 abbrev pub GOTCH : ℕ
 GOTCH = 44
+
+-- ---- a register's row
+
+abbrev pub register_row : Register → ℕ
+register_row register.EICR = EICR
+register_row register.EIMS = EIMS
+register_row register.EIMC = EIMC
+register_row register.EIAC = EIAC
+register_row register.EITR = EITR
+register_row register.IVAR = IVAR
+register_row register.GPIE = GPIE
+register_row register.CTRL = CTRL
+register_row register.CTRL_EXT = CTRL-EXT
+register_row register.EEC = EEC
+register_row register.FCTRL = FCTRL
+register_row register.RAL = RAL
+register_row register.RAH = RAH
+register_row register.RDBAL = RDBAL
+register_row register.RDBAH = RDBAH
+register_row register.RDLEN = RDLEN
+register_row register.RDH = RDH
+register_row register.RDT = RDT
+register_row register.RXDCTL = RXDCTL
+register_row register.SRRCTL = SRRCTL
+register_row register.SRRCTL_HIGH = SRRCTL-HIGH
+register_row register.RDRXCTL = RDRXCTL
+register_row register.RXPBSIZE = RXPBSIZE
+register_row register.RXCTRL = RXCTRL
+register_row register.DTXMXSZRQ = DTXMXSZRQ
+register_row register.DMATXCTL = DMATXCTL
+register_row register.TDBAL = TDBAL
+register_row register.TDBAH = TDBAH
+register_row register.TDLEN = TDLEN
+register_row register.TDH = TDH
+register_row register.TDT = TDT
+register_row register.TXDCTL = TXDCTL
+register_row register.TXPBSIZE = TXPBSIZE
+register_row register.RTTDCS = RTTDCS
+register_row register.DCA_RXCTRL = DCA-RXCTRL
+register_row register.DCA_RXCTRL_HIGH = DCA-RXCTRL-HIGH
+register_row register.HLREG0 = HLREG0
+register_row register.AUTOC = AUTOC
+register_row register.LINKS = LINKS
+register_row register.GPRC = GPRC
+register_row register.GPTC = GPTC
+register_row register.GORCL = GORCL
+register_row register.GORCH = GORCH
+register_row register.GOTCL = GOTCL
+register_row register.GOTCH = GOTCH
 
 -- ---- a register's address
 

@@ -5,145 +5,146 @@
 
 ghost use Rattle.std.specs.Prelude.{◌≡◌, ◌<◌, ◌≤◌};
 ghost use Rattle.limits.specs.Limits.{QUEUES};
-ghost use Rattle.card.specs.Registers.{ROWS, entry, address};
+ghost use Rattle.card.specs.Registers.{ROWS, register_row, entry, address};
 ghost use Rattle.card.specs.Masks.{masks, changed, queue_bit, vector_shift, vector_clear, vector_set, link_speed};
 
-// ---- rows of the table
+// ---- the table
 
-pub const EICR: usize = 0;
+// The registers by their datasheet names, one for each row of the table.
+#[allow(non_camel_case_types)]
+#[derive(Clone, Copy, PartialEq, Eq, Debug)]
+pub enum Register {
+    EICR,
+    EIMS,
+    EIMC,
+    EIAC,
+    EITR,
+    IVAR,
+    GPIE,
+    CTRL,
+    CTRL_EXT,
+    EEC,
+    FCTRL,
+    RAL,
+    RAH,
+    RDBAL,
+    RDBAH,
+    RDLEN,
+    RDH,
+    RDT,
+    RXDCTL,
+    SRRCTL,
+    SRRCTL_HIGH,
+    RDRXCTL,
+    RXPBSIZE,
+    RXCTRL,
+    DTXMXSZRQ,
+    DMATXCTL,
+    TDBAL,
+    TDBAH,
+    TDLEN,
+    TDH,
+    TDT,
+    TXDCTL,
+    TXPBSIZE,
+    RTTDCS,
+    DCA_RXCTRL,
+    DCA_RXCTRL_HIGH,
+    HLREG0,
+    AUTOC,
+    LINKS,
+    GPRC,
+    GPTC,
+    GORCL,
+    GORCH,
+    GOTCL,
+    GOTCH,
+}
 
-pub const EIMS: usize = 1;
+// A row: an address and a stride.
+#[derive(Clone, Copy)]
+struct Entry(u32, u32);
 
-pub const EIMC: usize = 2;
-
-pub const EIAC: usize = 3;
-
-pub const EITR: usize = 4;
-
-pub const IVAR: usize = 5;
-
-pub const GPIE: usize = 6;
-
-pub const CTRL: usize = 7;
-
-pub const CTRL_EXT: usize = 8;
-
-pub const EEC: usize = 9;
-
-pub const FCTRL: usize = 10;
-
-pub const RAL: usize = 11;
-
-pub const RAH: usize = 12;
-
-pub const RDBAL: usize = 13;
-
-pub const RDBAH: usize = 14;
-
-pub const RDLEN: usize = 15;
-
-pub const RDH: usize = 16;
-
-pub const RDT: usize = 17;
-
-pub const RXDCTL: usize = 18;
-
-pub const SRRCTL: usize = 19;
-
-pub const SRRCTL_HIGH: usize = 20;
-
-pub const RDRXCTL: usize = 21;
-
-pub const RXPBSIZE: usize = 22;
-
-pub const RXCTRL: usize = 23;
-
-pub const DTXMXSZRQ: usize = 24;
-
-pub const DMATXCTL: usize = 25;
-
-pub const TDBAL: usize = 26;
-
-pub const TDBAH: usize = 27;
-
-pub const TDLEN: usize = 28;
-
-pub const TDH: usize = 29;
-
-pub const TDT: usize = 30;
-
-pub const TXDCTL: usize = 31;
-
-pub const TXPBSIZE: usize = 32;
-
-pub const RTTDCS: usize = 33;
-
-pub const DCA_RXCTRL: usize = 34;
-
-pub const DCA_RXCTRL_HIGH: usize = 35;
-
-pub const HLREG0: usize = 36;
-
-pub const AUTOC: usize = 37;
-
-pub const LINKS: usize = 38;
-
-pub const GPRC: usize = 39;
-
-pub const GPTC: usize = 40;
-
-pub const GORCL: usize = 41;
-
-pub const GORCH: usize = 42;
-
-pub const GOTCL: usize = 43;
-
-pub const GOTCH: usize = 44;
-
-// For each row an address and a stride.
-const REGISTERS: [u32; 90] = [
-    0x0800, 0, 0x0880, 0, 0x0888, 0, 0x0810, 0, 0x0820, 4, 0x0900, 4, 0x0898, 0, 0x0000, 0, 0x18,
-    0, 0x10010, 0, 0x5080, 0, 0x5400, 8, 0x5404, 8, 0x1000, 0x40, 0x1004, 0x40, 0x1008, 0x40,
-    0x1010, 0x40, 0x1018, 0x40, 0x1028, 0x40, 0x2100, 4, 0x1014, 0x40, 0x2F00, 0, 0x3C00, 4,
-    0x3000, 0, 0x8100, 0, 0x4A80, 0, 0x6000, 0x40, 0x6004, 0x40, 0x6008, 0x40, 0x6010, 0x40,
-    0x6018, 0x40, 0x6028, 0x40, 0xCC00, 4, 0x4900, 0, 0x2200, 4, 0x100C, 0x40, 0x4240, 0, 0x42A0,
-    0, 0x42A4, 0, 0x4074, 0, 0x4080, 0, 0x4088, 0, 0x408C, 0, 0x4090, 0, 0x4094, 0,
+const REGISTERS: [Entry; 45] = [
+    Entry(0x0800, 0),
+    Entry(0x0880, 0),
+    Entry(0x0888, 0),
+    Entry(0x0810, 0),
+    Entry(0x0820, 4),
+    Entry(0x0900, 4),
+    Entry(0x0898, 0),
+    Entry(0x0000, 0),
+    Entry(0x18, 0),
+    Entry(0x10010, 0),
+    Entry(0x5080, 0),
+    Entry(0x5400, 8),
+    Entry(0x5404, 8),
+    Entry(0x1000, 0x40),
+    Entry(0x1004, 0x40),
+    Entry(0x1008, 0x40),
+    Entry(0x1010, 0x40),
+    Entry(0x1018, 0x40),
+    Entry(0x1028, 0x40),
+    Entry(0x2100, 4),
+    Entry(0x1014, 0x40),
+    Entry(0x2F00, 0),
+    Entry(0x3C00, 4),
+    Entry(0x3000, 0),
+    Entry(0x8100, 0),
+    Entry(0x4A80, 0),
+    Entry(0x6000, 0x40),
+    Entry(0x6004, 0x40),
+    Entry(0x6008, 0x40),
+    Entry(0x6010, 0x40),
+    Entry(0x6018, 0x40),
+    Entry(0x6028, 0x40),
+    Entry(0xCC00, 4),
+    Entry(0x4900, 0),
+    Entry(0x2200, 4),
+    Entry(0x100C, 0x40),
+    Entry(0x4240, 0),
+    Entry(0x42A0, 0),
+    Entry(0x42A4, 0),
+    Entry(0x4074, 0),
+    Entry(0x4080, 0),
+    Entry(0x4088, 0),
+    Entry(0x408C, 0),
+    Entry(0x4090, 0),
+    Entry(0x4094, 0),
 ];
 
 // The queues that have an alias address below the others.
 const LOW_QUEUES: usize = 16;
 
-// A row's address, so many strides on.
-fn entry_at(row: usize, n: usize) -> u32
-    requires { (row < ROWS) × (n < QUEUES) }
-    ensures { result ≡ entry row n }
-{
-    let base = REGISTERS[2 * row];
-    let stride = REGISTERS[2 * row + 1];
-    base + stride * (n as u32)
-}
+impl Register {
+    // Its row of the table.
+    fn row(self) -> usize
+        ensures { (result ≡ register_row self) × (result < ROWS) }
+    {
+        self as usize
+    }
 
-// The address of a row's register for a queue: an IVAR serves two queues, and SRRCTL and DCA_RXCTRL have two rows.
-pub fn register(row: usize, queue: usize) -> u32
-    requires { (row < ROWS) × (queue < QUEUES) }
-    ensures { result ≡ address row queue }
-{
-    if row == IVAR {
-        return entry_at(IVAR, queue / 2);
+    // The address of its row, so many strides on.
+    fn entry(self, n: usize) -> u32
+        requires { n < QUEUES }
+        ensures { result ≡ entry (register_row self) n }
+    {
+        let Entry(base, stride) = REGISTERS[self.row()];
+        base + stride * (n as u32)
     }
-    if row == SRRCTL {
-        if queue < LOW_QUEUES {
-            return entry_at(SRRCTL, queue);
+
+    // The address for a queue: an IVAR serves two queues, and SRRCTL and DCA_RXCTRL have two rows.
+    pub fn address(self, queue: usize) -> u32
+        requires { queue < QUEUES }
+        ensures { result ≡ address (register_row self) queue }
+    {
+        match self {
+            Register::IVAR => self.entry(queue / 2),
+            Register::SRRCTL if queue >= LOW_QUEUES => Register::SRRCTL_HIGH.entry(queue),
+            Register::DCA_RXCTRL if queue >= LOW_QUEUES => Register::DCA_RXCTRL_HIGH.entry(queue),
+            _ => self.entry(queue),
         }
-        return entry_at(SRRCTL_HIGH, queue);
     }
-    if row == DCA_RXCTRL {
-        if queue < LOW_QUEUES {
-            return entry_at(DCA_RXCTRL, queue);
-        }
-        return entry_at(DCA_RXCTRL_HIGH, queue);
-    }
-    entry_at(row, queue)
 }
 
 // ---- words that are written, and bits that are tested
@@ -306,21 +307,17 @@ pub fn vector_set(direction: usize, queue: usize, vector: u32) -> u32
 }
 
 // The link's speed in Mbit/s by LINKS, 0 where there is none.
+#[tactic(auto, unfolding(crate::specs::Masks::link_speed))]
 pub fn link_speed(value: u32) -> u32
     ensures { result ≡ link_speed value }
 {
     if value & LINKS_UP == 0 {
         return 0;
     }
-    let field = value & LINKS_SPEED;
-    if field == 0x1000_0000 {
-        return 100;
+    match value & LINKS_SPEED {
+        0x1000_0000 => 100,
+        0x2000_0000 => 1000,
+        0x3000_0000 => 10000,
+        _ => 0,
     }
-    if field == 0x2000_0000 {
-        return 1000;
-    }
-    if field == 0x3000_0000 {
-        return 10000;
-    }
-    0
 }

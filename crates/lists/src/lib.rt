@@ -1,9 +1,10 @@
 // What a call is lent. A list of handles is four parallel lists of numbers: room for so many, the handle at a place, a handle put at a place.
+// Four slices and none of handles: document 01 has the lists "over parallel number lists".
 // A ring is whole, and has one address for each entry beside it; a send ring has so many slots pending.
 
 #![tactic(auto)]
 
-ghost use Rattle.std.specs.Prelude.{◌≡◌, ◌+◌, ◌<◌, min};
+ghost use Rattle.std.specs.Prelude.{◌≡◌, ◌+◌, ◌<◌};
 ghost use Rattle.limits.specs.Limits.{SLOTS};
 ghost use Rattle.rules.specs.Account.{waiting};
 ghost use Rattle.rules.specs.Handles.{handles, handle_at, put_handle, has_room, Room};
@@ -11,13 +12,6 @@ ghost use Rattle.rules.specs.Refusals.{rings_fit};
 
 use limits::{SLOT_BYTES, SLOTS};
 use pool::Handle;
-
-// The lesser of two numbers.
-pub fn least(a: usize, b: usize) -> usize
-    ensures { result ≡ min a b }
-{
-    if a < b { a } else { b }
-}
 
 // How many slots of a queue wait to be cleaned.
 pub fn pending(tx: usize, clean: usize) -> usize
@@ -28,19 +22,11 @@ pub fn pending(tx: usize, clean: usize) -> usize
 }
 
 // Whether each list has room for n.
+#[tactic(auto, unfolding(rules::specs::Handles::has_room))]
 pub fn has_room(n: usize, pools: &[u32], ids: &[u16], offsets: &[u16], lengths: &[u16]) -> bool
     ensures { result ≡ has_room n (handles pools.now ids.now offsets.now lengths.now) }
 {
-    if pools.len() < n {
-        return false;
-    }
-    if ids.len() < n {
-        return false;
-    }
-    if offsets.len() < n {
-        return false;
-    }
-    n <= lengths.len()
+    n <= pools.len() && n <= ids.len() && n <= offsets.len() && n <= lengths.len()
 }
 
 // The handle at a place.
@@ -78,8 +64,5 @@ pub fn put(
 pub fn rings_fit(entries: usize, ring: &[u8], addresses: &[u64]) -> bool
     ensures { result ≡ rings_fit entries ring.now addresses.now }
 {
-    if ring.len() != SLOTS * SLOT_BYTES {
-        return false;
-    }
-    addresses.len() == entries
+    ring.len() == SLOTS * SLOT_BYTES && addresses.len() == entries
 }

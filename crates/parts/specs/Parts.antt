@@ -2,7 +2,8 @@
 -- To be held beside reset_and_init; a part that a queue loop makes is written once.
 use Rattle.std.specs.Prelude.{ℕ, ◌-◌, List, [], ◌∷◌, ◌++◌, map, length, get_or}
 use Rattle.limits.specs.Limits.{SLOTS, RING-BYTES}
-use Rattle.card.specs.Registers.{EIMS, EIMC, EICR, CTRL, RAL, RAH, EEC, RDRXCTL, AUTOC, GPRC, GPTC, GORCL, GORCH, GOTCL, GOTCH, RXCTRL, RXPBSIZE, HLREG0, FCTRL, SRRCTL, RDBAL, RDBAH, RDLEN, RDH, RDT, CTRL-EXT, DCA-RXCTRL, TXPBSIZE, DTXMXSZRQ, RTTDCS, TDBAL, TDBAH, TDLEN, TXDCTL, DMATXCTL, RXDCTL, TDH, TDT, IVAR, EIAC, EITR, GPIE, LINKS}
+use Rattle.card.specs.declared.Register.TheVariants.{EIMS, EIMC, EICR, CTRL, RAL, RAH, EEC, RDRXCTL, AUTOC, GPRC, GPTC, GORCL, GORCH, GOTCL, GOTCH, RXCTRL, RXPBSIZE, HLREG0, FCTRL, SRRCTL, RDBAL, RDBAH, RDLEN, RDH, RDT, CTRL_EXT, DCA_RXCTRL, TXPBSIZE, DTXMXSZRQ, RTTDCS, TDBAL, TDBAH, TDLEN, TXDCTL, DMATXCTL, RXDCTL, TDH, TDT, IVAR, EIAC, EITR, GPIE, LINKS}
+use Rattle.card.specs.Registers.{register_row}
 use Rattle.card.specs.Masks.{IRQ-ALL, CTRL-RST, EEC-ARD, RDRXCTL-DMAIDONE, AUTOC-LMS, AUTOC-LMS-10G-SERIAL, AUTOC-10G, AUTOC-10G-XAUI, AUTOC-RESTART, RXCTRL-RXEN, RXPBSIZE-128KB, HLREG0-RXCRCSTRP, RDRXCTL-CRCSTRIP, RDRXCTL-RSCFRSTSIZE, RDRXCTL-RSC, FCTRL-BAM, SRRCTL-DESCTYPE, SRRCTL-ONEBUF, SRRCTL-DROP, CTRL-EXT-NS-DIS, DCA-RXCTRL-12, FCTRL-PROMISC, HLREG0-SEND, TXPBSIZE-40KB, DTXMXSZRQ-MOST, RTTDCS-ARBDIS, TXDCTL-THRESHOLDS, TXDCTL-USUAL, DMATXCTL-ON, RXDCTL-ENABLE, TXDCTL-ENABLE, GPIE-MSIX, IRQ-QUEUES}
 use Rattle.parts.specs.declared.Part.{Part}
 use Rattle.parts.specs.declared.Value.TheVariants.{Is, FirstOnly, ReceiveLow, ReceiveHigh, SendLow, SendHigh, Rate, QueueBit, VectorClear, VectorZero, VectorQueue}
@@ -96,13 +97,13 @@ receive_queue =
 -- 4.6.7, its last sentence: no snoop disabled
 abbrev pub receive_snoop : List Template
 receive_snoop =
-    Change CTRL-EXT (Is 0) (Is CTRL-EXT-NS-DIS) ∷
+    Change CTRL_EXT (Is 0) (Is CTRL-EXT-NS-DIS) ∷
     []
 
 -- 4.6.7: a bit of DCA_RXCTRL off for each queue
 abbrev pub receive_dca : List Template
 receive_dca =
-    Change DCA-RXCTRL (Is DCA-RXCTRL-12) (Is 0) ∷
+    Change DCA_RXCTRL (Is DCA-RXCTRL-12) (Is 0) ∷
     []
 
 -- 8.2.3.7, 4.6.7: every frame is taken (set_promisc), and receiving is on
@@ -247,13 +248,13 @@ parts = reset_parts ++ (receive_parts ++ (send_parts ++ start_parts))
 
 -- the table's row that a template names
 abbrev pub row_of : Template → ℕ
-row_of (Write row v) = row
-row_of (Read row) = row
-row_of (Change row clear set) = row
-row_of (WaitSet row mask) = row
-row_of (WaitClear row mask) = row
+row_of (Write r v) = register_row r
+row_of (Read r) = register_row r
+row_of (Change r clear set) = register_row r
+row_of (WaitSet r mask) = register_row r
+row_of (WaitClear r mask) = register_row r
 row_of (Pause ms) = 0
-row_of (Link row) = row
+row_of (Link r) = register_row r
 
 -- ---- the parts as tables
 
@@ -268,7 +269,7 @@ abbrev pub no_part : Part
 no_part = record { times = Once; len = 0 }
 
 abbrev pub no_template : Template
-no_template = Write 0 (Is 0)
+no_template = Write EICR (Is 0)
 
 abbrev pub no_made : Made
 no_made = part Once []

@@ -12,6 +12,7 @@ use borrow.Author.Tests.{leb-true, ltb-true}
 use lib.Dec.{T, eqb, leb, ltb}
 use lib.ListN.{length, get_or, drop, length-append, length-map, get_or-append, get_or-eq_default}
 use lib.Seq.{drop-cons}
+use Rattle.std.specs.Prelude.{Option, None, Some}
 use Rattle.limits.specs.Limits.{QUEUES}
 use Rattle.laws.specs.Test.{pick, both}
 use Rattle.card.specs.Registers.{ROWS}
@@ -23,8 +24,6 @@ use Rattle.parts.specs.declared.Times.TheVariants.{Once, Buffer, Receive, Send, 
 use Rattle.parts.specs.Parts.{Made, parts, row_of, row_for, part_rows, items_of, no_part, no_template, no_made, PARTS, TEMPLATES}
 use Rattle.parts.proofs.Lists.{at_right, at_map, drop_all, all, all_cons, at_all}
 use Rattle.plan.specs.declared.Setup.{Setup}
-use Rattle.plan.specs.declared.Interrupts.{Interrupts}
-use Rattle.plan.specs.declared.Interrupts.TheVariants.{Off, Kind}
 use Rattle.plan.specs.declared.Item.{Item}
 use Rattle.plan.specs.declared.Item.TheVariants.{End}
 use Rattle.plan.specs.Sequence.{Ranged, MSI, MSIX, by_kind, times_of, times_for, filled, each, for_queue, made, joined, sequence, ITEMS}
@@ -133,15 +132,15 @@ module _ (i : ℕ) (h : i < PARTS) where
   named j k = (fine-item (get_or parts i no_made) fine-at j k).0
 
 -- no part is made more often than there may be queues
-by-kind-few : (kind : ℕ) (interrupts : Interrupts) (n : ℕ) → n ≤ QUEUES → by_kind kind interrupts n ≤ QUEUES
-by-kind-few kind Off n h = omega arith
-by-kind-few kind (Kind k) n h = either (eqb k kind)
+by-kind-few : (kind : ℕ) (interrupts : Option ℕ) (n : ℕ) → n ≤ QUEUES → by_kind kind interrupts n ≤ QUEUES
+by-kind-few kind None n h = omega arith
+by-kind-few kind (Some k) n h = either (eqb k kind)
   where
     either : (b : Bool) → pick b n 0 ≤ QUEUES
     either true = h
     either false = omega arith
 
-module _ (receives sends : ℕ) (interrupts : Interrupts) (r : receives ≤ QUEUES) (s : sends ≤ QUEUES) where
+module _ (receives sends : ℕ) (interrupts : Option ℕ) (r : receives ≤ QUEUES) (s : sends ≤ QUEUES) where
   times-of-few : (t : Times) → times_of receives sends interrupts t ≤ QUEUES
   times-of-few Once = omega arith
   times-of-few Buffer = omega arith
@@ -190,7 +189,7 @@ module _ (s : Setup) (place left i : ℕ) (at : Here s place left i) (h : i < le
 -- ---- a count of the parts: so many items before part i
 
 -- the items of some parts
-abbrev pub items-of : ℕ → ℕ → Interrupts → List Made → ℕ
+abbrev pub items-of : ℕ → ℕ → Option ℕ → List Made → ℕ
 items-of receives sends interrupts [] = 0
 items-of receives sends interrupts (p ∷ ps) =
     times_of receives sends interrupts p.times * length p.items + items-of receives sends interrupts ps
@@ -199,12 +198,12 @@ length-joined : (s : Setup) (ps : List Made) → length (joined s ps) ≡ items-
 length-joined s [] = refl
 length-joined s (p ∷ ps) = simp length-append (omega (arith, length-made s p, length-joined s ps))
 
-pub record Counted (receives sends : ℕ) (interrupts : Interrupts) (sum i : ℕ) : Type 0 where
+pub record Counted (receives sends : ℕ) (interrupts : Option ℕ) (sum i : ℕ) : Type 0 where
   pub counted : sum + items-of receives sends interrupts (drop i parts) ≡ items-of receives sends interrupts parts
   pub small : sum ≤ i * (QUEUES * TEMPLATES)
   pub within : i ≤ PARTS
 
-pub count-start : (receives sends : ℕ) (interrupts : Interrupts) → Counted receives sends interrupts 0 0
+pub count-start : (receives sends : ℕ) (interrupts : Option ℕ) → Counted receives sends interrupts 0 0
 count-start receives sends interrupts = record { counted = zero-add _; small = omega arith; within = omega arith }
 
 pub count-end : (s : Setup) (sum i : ℕ) → Counted s.receives s.sends s.interrupts sum i → PARTS ≤ i
@@ -217,14 +216,14 @@ count-end s sum i c h = (
 
 -- ---- a turn, by the table's row: the walk is at part i, whose row of the table was read, and n is how often it is made
 
-pub record Turn (receives sends : ℕ) (interrupts : Interrupts) (i n : ℕ) (row : Part) : Type 0 where
+pub record Turn (receives sends : ℕ) (interrupts : Option ℕ) (i n : ℕ) (row : Part) : Type 0 where
   pub within : i < PARTS
   pub is : row ≡ get_or part_rows i no_part
   pub receives-few : receives ≤ QUEUES
   pub sends-few : sends ≤ QUEUES
   pub many : n ≡ times_of receives sends interrupts row.times
 
-module _ {receives sends : ℕ} {interrupts : Interrupts} {i n : ℕ} {row : Part} (turn : Turn receives sends interrupts i n row) where
+module _ {receives sends : ℕ} {interrupts : Option ℕ} {i n : ℕ} {row : Part} (turn : Turn receives sends interrupts i n row) where
   inside : i < length parts
   inside = omega (arith, part_count, turn.within)
 

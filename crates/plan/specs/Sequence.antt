@@ -1,8 +1,8 @@
 -- The sequence of a set-up: its parts in order, each made for one queue after the other.
-use Rattle.std.specs.Prelude.{ℕ, zero, suc, ◌+◌, ◌*◌, ◌%◌, ◌/◌, ◌^◌, ◌≤◌, ◌≡◌, List, [], ◌∷◌, ◌++◌, map, eqb, length, get_or}
+use Rattle.std.specs.Prelude.{ℕ, zero, suc, ◌+◌, ◌*◌, ◌%◌, ◌/◌, ◌^◌, ◌≤◌, ◌≡◌, List, [], ◌∷◌, ◌++◌, map, eqb, length, get_or, Option, None, Some}
 use Rattle.limits.specs.Limits.{QUEUES}
 use Rattle.laws.specs.Test.{pick}
-use Rattle.card.specs.Registers.{address}
+use Rattle.card.specs.Registers.{register_row, address}
 use Rattle.card.specs.Masks.{queue_bit, vector_clear, vector_set}
 use Rattle.parts.specs.declared.Value.{Value}
 use Rattle.parts.specs.declared.Value.TheVariants.{Is, FirstOnly, ReceiveLow, ReceiveHigh, SendLow, SendHigh, Rate, QueueBit, VectorClear, VectorZero, VectorQueue}
@@ -11,8 +11,6 @@ use Rattle.parts.specs.declared.Template.TheVariants.{Write, Read, Change, WaitS
 use Rattle.parts.specs.declared.Times.{Times}
 use Rattle.parts.specs.declared.Times.TheVariants.{Once, Buffer, Receive, Send, MsiQueue, MsixQueue}
 use Rattle.parts.specs.Parts.{Made, parts, PARTS, TEMPLATES}
-use Rattle.plan.specs.declared.Interrupts.{Interrupts}
-use Rattle.plan.specs.declared.Interrupts.TheVariants.{Off, Kind}
 use Rattle.plan.specs.declared.Setup.{Setup}
 use Rattle.plan.specs.declared.Item.{Item}
 use Rattle.plan.specs.declared.Item.TheVariants as item
@@ -41,11 +39,11 @@ pub record Ranged (s : Setup) : Type 0 where
 -- ---- how often a part is made
 
 -- the receive queues, if they are signalled by a kind of interrupt
-abbrev pub by_kind : ℕ → Interrupts → ℕ → ℕ
-by_kind kind Off receives = 0
-by_kind kind (Kind k) receives = pick (eqb k kind) receives 0
+abbrev pub by_kind : ℕ → Option ℕ → ℕ → ℕ
+by_kind kind None receives = 0
+by_kind kind (Some k) receives = pick (eqb k kind) receives 0
 
-abbrev pub times_of : ℕ → ℕ → Interrupts → Times → ℕ
+abbrev pub times_of : ℕ → ℕ → Option ℕ → Times → ℕ
 times_of receives sends interrupts Once = 1
 times_of receives sends interrupts Buffer = BUFFERS
 times_of receives sends interrupts Receive = receives
@@ -81,13 +79,13 @@ value_of s queue VectorQueue = vector_set 0 queue queue
 
 -- a template's item
 abbrev pub filled : Setup → ℕ → Template → Item
-filled s queue (Write row v) = item.Write (address row queue) (value_of s queue v)
-filled s queue (Read row) = item.Read (address row queue)
-filled s queue (Change row clear set) = item.Change (address row queue) (value_of s queue clear) (value_of s queue set)
-filled s queue (WaitSet row mask) = item.WaitSet (address row queue) mask
-filled s queue (WaitClear row mask) = item.WaitClear (address row queue) mask
+filled s queue (Write r v) = item.Write (address (register_row r) queue) (value_of s queue v)
+filled s queue (Read r) = item.Read (address (register_row r) queue)
+filled s queue (Change r clear set) = item.Change (address (register_row r) queue) (value_of s queue clear) (value_of s queue set)
+filled s queue (WaitSet r mask) = item.WaitSet (address (register_row r) queue) mask
+filled s queue (WaitClear r mask) = item.WaitClear (address (register_row r) queue) mask
 filled s queue (Pause ms) = item.Pause ms
-filled s queue (Link row) = item.Link (address row queue)
+filled s queue (Link r) = item.Link (address (register_row r) queue)
 
 -- ---- the sequence
 

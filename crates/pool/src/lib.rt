@@ -10,8 +10,7 @@ ghost use Rattle.pool.specs.Good.{good_in};
 
 use limits::{ENTRIES, HEADROOM};
 
-// The hands that can have a buffer. Send queue q is hand HAND_SEND + q. They are bytes and no enum, since an account that a caller hands in may hold
-// any byte for an id, and `sound::is_sound` has to refuse it.
+// The hands that can have a buffer. Send queue q is hand HAND_SEND + q. They are bytes and no enum: an account that `sound::is_sound` refuses may hold any.
 pub const HAND_FREE: u8 = 0;
 
 pub const HAND_RECEIVE: u8 = 1;

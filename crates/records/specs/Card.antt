@@ -1,11 +1,14 @@
 -- Document 01, "The bench program": what the card's records, a done bit and a frame, do to the rings.
-use Rattle.std.specs.Prelude.{ℕ, ◌+◌, ◌*◌, ◌/◌, List, get_or, set, ltb}
+use Rattle.std.specs.Prelude.{ℕ, ◌+◌, ◌*◌, ◌/◌, List, get_or, set, ltb, Some, None}
+use Rattle.std.specs.declared.option.Option.{Option}
 use Rattle.limits.specs.Limits.{SENDS, SLOTS, RING-BYTES}
 use Rattle.laws.specs.Test.{pick, both}
 use Rattle.words.specs.Le.{put_le}
 use Rattle.words.specs.Slots.{slot_at}
 use Rattle.records.specs.declared.Record.{Record}
-use Rattle.records.specs.declared.Record.TheVariants.{Fresh, Start, Take, Release, Done, Frame, Receive, Send, Bad}
+use Rattle.records.specs.declared.Record.TheVariants.{Fresh, Card, Call}
+use Rattle.records.specs.declared.Event.{Event}
+use Rattle.records.specs.declared.Event.TheVariants.{Done, Frame}
 
 -- the send rings stand one after the other
 abbrev pub SEND-BYTES : ℕ
@@ -31,13 +34,14 @@ pub record Rings : Type 0 where
 abbrev pub card_as : List ℕ → List ℕ → Rings
 card_as rx tx = record { rx = rx; tx = tx }
 
-abbrev pub card_rule : Record → Rings → Rings
-card_rule (Fresh entries size sends) w = w
-card_rule Start w = w
-card_rule (Take size) w = w
-card_rule (Release id) w = w
-card_rule (Done queue slot) w = pick (both (ltb queue SENDS) (ltb slot SLOTS)) (card_as w.rx (done_rule queue slot w.tx)) w
-card_rule (Frame slot status len) w = pick (ltb slot SLOTS) (card_as (frame_rule slot status len w.rx) w.tx) w
-card_rule (Receive n) w = w
-card_rule (Send queue count) w = w
-card_rule Bad w = w
+-- at a slot and a queue that there are
+abbrev pub event_rule : Event → Rings → Rings
+event_rule (Done queue slot) w = pick (both (ltb queue SENDS) (ltb slot SLOTS)) (card_as w.rx (done_rule queue slot w.tx)) w
+event_rule (Frame slot status len) w = pick (ltb slot SLOTS) (card_as (frame_rule slot status len w.rx) w.tx) w
+
+-- any other record leaves the rings
+abbrev pub card_rule : Option Record → Rings → Rings
+card_rule (Some (Fresh entries size sends)) w = w
+card_rule (Some (Card event)) w = event_rule event w
+card_rule (Some (Call call)) w = w
+card_rule None w = w

@@ -2,11 +2,11 @@
 
 #![tactic(auto)]
 
-ghost use Rattle.std.specs.Prelude.{◌≡◌, ◌≤◌, ◌<◌, length};
+ghost use Rattle.std.specs.Prelude.{◌≡◌, ◌+◌, ◌≤◌, ◌<◌, length, Some};
 ghost use Rattle.limits.specs.Limits.{SENDS, SLOTS, RING-BYTES};
 ghost use Rattle.words.specs.Slots.{InRing};
-ghost use Rattle.records.specs.Records.{fresh_of, start_of, take_of, release_of, done_of, frame_of, receive_of, send_of, record_of, end_of, Ends, kind_of, allowed, card_of, way_of};
-ghost use Rattle.records.specs.Card.{SEND-BYTES, frame_rule, done_rule, card_as, card_rule};
+ghost use Rattle.records.specs.Records.{slot_of, done_of, frame_of, send_of, record_of, end_of, Ends, kind_of, admitted, shape, way_of};
+ghost use Rattle.records.specs.Card.{SEND-BYTES, frame_rule, done_rule, card_as, event_rule};
 
 use limits::{SENDS, SLOT_BYTES, SLOTS};
 
@@ -18,294 +18,200 @@ pub const SEND_BYTES: usize = SENDS * RING_BYTES;
 // The most ids of a record.
 pub const MOST: usize = 32764;
 
-// A record. The ids of a send stand in its bytes.
+// A record: a fresh account, what the card does, or a call on the account.
 #[derive(Clone, Copy)]
 pub enum Record {
-    // Entries, entry size, send queues.
-    Fresh(usize, usize, usize),
+    Fresh {
+        entries: usize,
+        size: usize,
+        sends: usize,
+    },
+    Card(Event),
+    Call(Call),
+}
+
+// What the card does: it sets the done bit of a slot, or puts a frame into one.
+#[derive(Clone, Copy)]
+pub enum Event {
+    Done {
+        queue: usize,
+        slot: usize,
+    },
+    Frame {
+        slot: usize,
+        status: u32,
+        length: u16,
+    },
+}
+
+// A call on the account. The ids of a send stand in the record's bytes.
+#[derive(Clone, Copy)]
+pub enum Call {
     Start,
     Take(usize),
     Release(u16),
-    // Queue and slot.
-    Done(usize, usize),
-    // Slot, status and length.
-    Frame(usize, u32, u16),
     Receive(usize),
-    // Queue and count.
-    Send(usize, usize),
-    Bad,
-}
-
-// What is done with a record: nothing, since it is bad; a fresh account; something on the rings; or a call on the account.
-#[derive(Drop)]
-pub enum Way {
-    Bad,
-    Fresh,
-    Card,
-    Account,
+    Send { queue: usize, count: usize },
 }
 
 // ---- bytes: a record's kind and body
 
-fn fresh_record(rest: &[u8]) -> Record
-    ensures { result ≡ fresh_of rest.now }
+// The slot at a place, if there is one of that number.
+fn slot_at(rest: &[u8], at: usize) -> Option<usize>
+    requires { at + 2 ≤ length rest.now }
+    ensures { result ≡ slot_of at rest.now }
 {
-    if rest.len() != 10 {
-        return Record::Bad;
+    let slot = words::read16(rest, at) as usize;
+    if SLOTS <= slot {
+        return None;
     }
-    let entries = words::read16(rest, 2) as usize;
-    let size = words::read32(rest, 4) as usize;
-    let sends = words::read16(rest, 8) as usize;
-    Record::Fresh(entries, size, sends)
+    Some(slot)
 }
 
-fn start_record(rest: &[u8]) -> Record
-    ensures { result ≡ start_of rest.now }
-{
-    if rest.len() != 2 {
-        return Record::Bad;
-    }
-    Record::Start
-}
-
-fn take_record(rest: &[u8]) -> Record
-    ensures { result ≡ take_of rest.now }
-{
-    if rest.len() != 6 {
-        return Record::Bad;
-    }
-    Record::Take(words::read32(rest, 2) as usize)
-}
-
-fn release_record(rest: &[u8]) -> Record
-    ensures { result ≡ release_of rest.now }
-{
-    if rest.len() != 4 {
-        return Record::Bad;
-    }
-    Record::Release(words::read16(rest, 2))
-}
-
-fn done_record(rest: &[u8]) -> Record
+fn done_record(rest: &[u8]) -> Option<Record>
+    requires { length rest.now ≡ 6 }
     ensures { result ≡ done_of rest.now }
 {
-    if rest.len() != 6 {
-        return Record::Bad;
-    }
+    let slot = slot_at(rest, 4)?;
     let queue = words::read16(rest, 2) as usize;
-    let slot = words::read16(rest, 4) as usize;
-    if slot < SLOTS {
-        return Record::Done(queue, slot);
-    }
-    Record::Bad
+    Some(Record::Card(Event::Done { queue, slot }))
 }
 
-fn frame_record(rest: &[u8]) -> Record
+fn frame_record(rest: &[u8]) -> Option<Record>
+    requires { length rest.now ≡ 10 }
     ensures { result ≡ frame_of rest.now }
 {
-    if rest.len() != 10 {
-        return Record::Bad;
-    }
-    let slot = words::read16(rest, 2) as usize;
-    if SLOTS <= slot {
-        return Record::Bad;
-    }
+    let slot = slot_at(rest, 2)?;
     let status = words::read32(rest, 4);
-    let len = words::read16(rest, 8);
-    Record::Frame(slot, status, len)
+    let length = words::read16(rest, 8);
+    Some(Record::Card(Event::Frame {
+        slot,
+        status,
+        length,
+    }))
 }
 
-fn receive_record(rest: &[u8]) -> Record
-    ensures { result ≡ receive_of rest.now }
-{
-    if rest.len() != 6 {
-        return Record::Bad;
-    }
-    Record::Receive(words::read32(rest, 2) as usize)
-}
-
-fn send_record(rest: &[u8]) -> Record
+fn send_record(rest: &[u8]) -> Option<Record>
     ensures { result ≡ send_of rest.now }
 {
     if rest.len() < 6 {
-        return Record::Bad;
+        return None;
     }
     let queue = words::read16(rest, 2) as usize;
     let count = words::read16(rest, 4) as usize;
     if rest.len() != 6 + 2 * count {
-        return Record::Bad;
+        return None;
     }
-    Record::Send(queue, count)
+    Some(Record::Call(Call::Send { queue, count }))
 }
 
-// What the bytes of a record mean, its length taken off: the kind and the body.
-pub fn decode(rest: &[u8]) -> Record
+// What the bytes of a record mean, its length taken off: the kind and the body. None if they mean no record.
+#[tactic(auto, unfolding(crate::specs::Records::record_of))]
+pub fn decode(rest: &[u8]) -> Option<Record>
     ensures { result ≡ record_of rest.now }
 {
     if rest.len() < 2 {
-        return Record::Bad;
+        return None;
     }
-    let kind = words::read16(rest, 0);
-    if kind == 1 {
-        return fresh_record(rest);
+    match (words::read16(rest, 0), rest.len()) {
+        (1, 10) => Some(Record::Fresh {
+            entries: words::read16(rest, 2) as usize,
+            size: words::read32(rest, 4) as usize,
+            sends: words::read16(rest, 8) as usize,
+        }),
+        (2, 2) => Some(Record::Call(Call::Start)),
+        (3, 6) => Some(Record::Call(Call::Take(words::read32(rest, 2) as usize))),
+        (4, 4) => Some(Record::Call(Call::Release(words::read16(rest, 2)))),
+        (5, 6) => done_record(rest),
+        (6, 10) => frame_record(rest),
+        (7, 6) => Some(Record::Call(Call::Receive(words::read32(rest, 2) as usize))),
+        (8, _) => send_record(rest),
+        _ => None,
     }
-    if kind == 2 {
-        return start_record(rest);
-    }
-    if kind == 3 {
-        return take_record(rest);
-    }
-    if kind == 4 {
-        return release_record(rest);
-    }
-    if kind == 5 {
-        return done_record(rest);
-    }
-    if kind == 6 {
-        return frame_record(rest);
-    }
-    if kind == 7 {
-        return receive_record(rest);
-    }
-    if kind == 8 {
-        return send_record(rest);
-    }
-    Record::Bad
 }
 
-// Where the record at a place ends; 0 if it is cut short.
-pub fn end_of(bytes: &[u8], from: usize, to: usize) -> usize
+// Where the record at a place ends. None if it is cut short.
+#[tactic(auto, unfolding(crate::specs::Records::end_of))]
+pub fn end_of(bytes: &[u8], from: usize, to: usize) -> Option<usize>
     requires { (from ≤ to) × (to ≤ length bytes.now) }
     ensures end { result ≡ end_of from to bytes.now }
     ensures bounds { Ends from to result }
 {
     if to - from < 2 {
-        return 0;
+        return None;
     }
     let end = from + 2 + words::read16(bytes, from) as usize;
     if to < end {
-        return 0;
+        return None;
     }
-    end
+    Some(end)
 }
 
-// The number of a record's kind; 0 for a bad one.
+// The number of a record's kind.
 pub fn kind(what: Record) -> u64
-    ensures { result ≡ kind_of what }
+    ensures { result ≡ kind_of (Some what) }
 {
     match what {
-        Record::Fresh(_, _, _) => 1,
-        Record::Start => 2,
-        Record::Take(_) => 3,
-        Record::Release(_) => 4,
-        Record::Done(_, _) => 5,
-        Record::Frame(_, _, _) => 6,
-        Record::Receive(_) => 7,
-        Record::Send(_, _) => 8,
-        Record::Bad => 0,
+        Record::Fresh { .. } => 1,
+        Record::Call(Call::Start) => 2,
+        Record::Call(Call::Take(_)) => 3,
+        Record::Call(Call::Release(_)) => 4,
+        Record::Card(Event::Done { .. }) => 5,
+        Record::Card(Event::Frame { .. }) => 6,
+        Record::Call(Call::Receive(_)) => 7,
+        Record::Call(Call::Send { .. }) => 8,
     }
 }
 
-// Whether a record may come after a fresh account that answered 0 with so many send queues.
-pub fn is_allowed(what: Record, sends: usize) -> bool
-    ensures { result ≡ allowed sends what }
+// The record, if it may come. Begun: a fresh account has answered 0, with so many send queues. What is done with it is its shape.
+#[tactic(auto, unfolding(crate::specs::Records::way_of))]
+pub fn admit(what: Option<Record>, begun: bool, sends: usize) -> Option<Record>
+    ensures admitted { result ≡ admitted begun sends what }
+    ensures way { shape result ≡ way_of begun sends what }
 {
-    match what {
-        Record::Fresh(_, _, _) => false,
-        Record::Start => true,
-        Record::Take(_) => true,
-        Record::Release(_) => true,
-        Record::Done(queue, _) => queue < sends,
-        Record::Frame(_, _, _) => true,
-        Record::Receive(_) => true,
-        Record::Send(_, _) => true,
-        Record::Bad => false,
+    match what? {
+        Record::Fresh { .. } if begun => None,
+        Record::Card(Event::Done { queue, .. }) if sends <= queue => None,
+        Record::Card(_) | Record::Call(_) if !begun => None,
+        _ => what,
     }
-}
-
-// Whether a record is one of the card's: a done bit or a frame.
-pub fn is_card(what: Record) -> bool
-    ensures { result ≡ card_of what }
-{
-    match what {
-        Record::Fresh(_, _, _) => false,
-        Record::Start => false,
-        Record::Take(_) => false,
-        Record::Release(_) => false,
-        Record::Done(_, _) => true,
-        Record::Frame(_, _, _) => true,
-        Record::Receive(_) => false,
-        Record::Send(_, _) => false,
-        Record::Bad => false,
-    }
-}
-
-// What is done with a record. Begun: a fresh account has answered 0, with so many send queues.
-pub fn way_of(what: Record, begun: bool, sends: usize) -> Way
-    ensures { result ≡ way_of begun sends what }
-{
-    if !begun {
-        if kind(what) == 1 {
-            return Way::Fresh;
-        }
-        return Way::Bad;
-    }
-    if !is_allowed(what, sends) {
-        return Way::Bad;
-    }
-    if is_card(what) {
-        return Way::Card;
-    }
-    Way::Account
 }
 
 // ---- the card
 
 // The card puts a frame into a slot of the receive ring.
-fn put_frame(ring: &mut [u8], slot: usize, status: u32, len: u16)
+fn put_frame(ring: &mut [u8], slot: usize, status: u32, length: u16)
     requires { InRing slot ring.old }
-    ensures { ring.new ≡ frame_rule slot status len ring.old }
+    ensures { ring.new ≡ frame_rule slot status length ring.old }
 {
     let at = slot * SLOT_BYTES;
     words::write32(ring, at + 8, status);
-    ring[at + 12] = (len % 0x100) as u8;
-    ring[at + 13] = (len / 0x100) as u8;
+    ring[at + 12] = (length % 0x100) as u8;
+    ring[at + 13] = (length / 0x100) as u8;
 }
 
 // The card sets the done bit of a slot of a send ring.
+#[tactic(auto, unfolding(crate::specs::Card::done_rule))]
 fn set_done(rings: &mut [u8], queue: usize, slot: usize)
     requires { (length rings.old ≡ SEND-BYTES) × (queue < SENDS) × (slot < SLOTS) }
     ensures { rings.new ≡ done_rule queue slot rings.old }
 {
     let at = queue * RING_BYTES + slot * SLOT_BYTES + 12;
-    let before = rings[at];
-    rings[at] = before / 2 * 2 + 1;
+    rings[at] = rings[at] / 2 * 2 + 1;
 }
 
-// What the card does: a frame or a done bit, at a slot and a queue that there are. Any other record leaves the rings.
-pub fn on_card(what: Record, rx: &mut [u8], tx: &mut [u8])
+// What the card does: a frame or a done bit, at a slot and a queue that there are. Anything else leaves the rings.
+pub fn on_card(event: Event, rx: &mut [u8], tx: &mut [u8])
     requires { (length rx.old ≡ RING-BYTES) × (length tx.old ≡ SEND-BYTES) }
-    ensures { card_as rx.new tx.new ≡ card_rule what (card_as rx.old tx.old) }
+    ensures { card_as rx.new tx.new ≡ event_rule event (card_as rx.old tx.old) }
 {
-    match what {
-        Record::Fresh(_, _, _) => {}
-        Record::Start => {}
-        Record::Take(_) => {}
-        Record::Release(_) => {}
-        Record::Done(queue, slot) => {
-            if queue < SENDS {
-                if slot < SLOTS {
-                    set_done(tx, queue, slot);
-                }
-            }
-        }
-        Record::Frame(slot, status, len) => {
-            if slot < SLOTS {
-                put_frame(rx, slot, status, len);
-            }
-        }
-        Record::Receive(_) => {}
-        Record::Send(_, _) => {}
-        Record::Bad => {}
+    match event {
+        Event::Done { queue, slot } if queue < SENDS && slot < SLOTS => set_done(tx, queue, slot),
+        Event::Frame {
+            slot,
+            status,
+            length,
+        } if slot < SLOTS => put_frame(rx, slot, status, length),
+        _ => {}
     }
 }

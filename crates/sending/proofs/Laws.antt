@@ -14,7 +14,7 @@ use Rattle.rules.specs.declared.Account.{Account}
 use Rattle.rules.specs.Verdict.{Done}
 use Rattle.rules.specs.Handles.{Handles, handle_at}
 use Rattle.rules.specs.Account.{waiting}
-use Rattle.rules.specs.Sound.{sound, Full, Good}
+use Rattle.rules.specs.Sound.{sound, Indices, Full, Good}
 use Rattle.rules.specs.Refusals.{send_verdict}
 use Rattle.rules.specs.Send.{Cleaning, clean_rule, Sending, send_rule, sending, room_for, sent_after, send_end}
 use Rattle.rules.proofs.Facts.{bounds, sent-known, room-for-pending}
@@ -54,7 +54,7 @@ pub run-outcome : (a : Account) (q : ℕ) (ring addresses : List ℕ) (lists : H
     → send_end a q c w ≡ send_end a q whole (sent_after a q ring addresses lists whole)
 run-outcome a q ring addresses lists c whole count w p n e = rw (e, n, p)
 
-module _ (a : Account) (full : Full a) (q : ℕ) (ring addresses : List ℕ) (lists : Handles) (done : send_verdict a q ring addresses lists ≡ Done) where
+module _ (a : Account) (q : ℕ) (ring addresses : List ℕ) (lists : Handles) (done : send_verdict a q ring addresses lists ≡ Done) where
   e : sound a ≡ true
   e = (send-done a q ring addresses lists done).0
 
@@ -70,18 +70,21 @@ module _ (a : Account) (full : Full a) (q : ℕ) (ring addresses : List ℕ) (li
   pub queue-below : q < SENDS
   queue-below = omega (arith, queue, (sound-means a e).numbers.few-sends)
 
-  pub cleanable-now : Cleanable BATCH ring a.sent q (get_or a.tx q 0) (get_or a.clean q 0) a.free.depth
-  cleanable-now =
+  pub places : Indices (get_or a.clean q 0) (get_or a.tx q 0)
+  places = (sound-means a e).queues q queue
+
+  pub cleanable-now : Full a → Cleanable BATCH ring a.sent q (get_or a.tx q 0) (get_or a.clean q 0) a.free.depth
+  cleanable-now full =
       record {
         some = omega arith;
         small = omega arith;
-        index = ((sound-means a e).queues q queue).tx-below;
+        index = places.tx-below;
         whole = whole;
         givable = record {
           queue = queue-below;
-          place = ((sound-means a e).queues q queue).clean-below;
+          place = places.clean-below;
           room = omega (arith, room-for-pending a e full q queue, bounds a e);
-          known = λ i l. omega (arith, sent-known a e full q queue i l, bounds a e);
+          known = λ i l. omega (arith, sent-known a e q queue i l, bounds a e);
         };
       }
 
@@ -92,7 +95,7 @@ module _ (a : Account) (full : Full a) (q : ℕ) (ring addresses : List ℕ) (li
   writable_now =
       record {
         queue = queue-below;
-        place = ((sound-means a e).queues q queue).tx-below;
+        place = places.tx-below;
         few = omega (arith, one_each, bounds a e);
         whole = whole;
         room = room-means (length lists.ids) lists (send-done a q ring addresses lists done).2;

@@ -4,6 +4,7 @@ use Prim.Native.Nat.{ℕ, zero, suc, ◌+◌, ◌-◌, ◌%◌, ◌≤◌, ◌<�
 use mathlib.Core.Path.{◌≡◌, refl, sym, ◌∙◌}
 use mathlib.Core.Bool.{true, false}
 use mathlib.Core.List.{List}
+use lib.ListN.{get_or, set}
 use lib.Dec.{leb}
 use native.Mathlib.Omega.{arith}
 use borrow.Author.Tests.{le-leb, lt-leb}
@@ -11,10 +12,11 @@ use Rattle.limits.specs.Limits.{SLOTS}
 use Rattle.laws.proofs.Test.{both_true, both_false}
 use Rattle.words.specs.Slots.{sent_at}
 use Rattle.rules.specs.Handles.{Handles, handle_at}
-use Rattle.rules.specs.Account.{waiting}
+use Rattle.pool.specs.Hands.{HAND-FREE}
+use Rattle.rules.specs.Account.{waiting, next_slot, send_place}
 use Rattle.rules.specs.Send.{Cleaning, given_back, give_back, batch_last, cleanable, clean_rule, Sending, packet_sent, send_rule}
 use Rattle.rules.proofs.Send.{give-clean, clean-none, clean-stops, clean-more}
-use Rattle.sends.specs.Lent.{Givable, Cleanable}
+use Rattle.sends.specs.Lent.{cleaning_as, Givable, Cleanable, sending_as}
 
 -- ---- ids given back
 
@@ -27,6 +29,22 @@ module _ (sent : List ℕ) (q n i : ℕ) (w : Cleaning) where
   pub give-none : n ≤ i → give_back sent q (n - i) w ≡ w
   unfolding give_back
   give-none past = let e : n - i ≡ 0 = omega arith in rw e
+
+-- the work after i of n ids, by the numbers: the place on the stack and in the ring
+module _ (sent : List ℕ) (q n clean depth i : ℕ) (stack hands : List ℕ) where
+  abbrev given : ℕ → List ℕ → List ℕ → Cleaning
+  given k l m = cleaning_as l (depth + k) m ((clean + k) % SLOTS)
+
+  abbrev here : ℕ
+  here = get_or sent (send_place q ((clean + i) % SLOTS)) 0
+
+  pub give-turn : i < n
+      → give_back sent q (n - (i + 1)) (given (i + 1) (set stack (depth + i) here) (set hands here HAND-FREE)) ≡ give_back sent q (n - i) (given i stack hands)
+  unfolding given_back
+  give-turn below =
+      let slot : (clean + (i + 1)) % SLOTS ≡ ((clean + i) % SLOTS + 1) % SLOTS = omega arith in
+      let deep : depth + (i + 1) ≡ depth + i + 1 = omega arith in
+      rw (slot, deep) (sym (give-step sent q n i (given i stack hands) below))
 
 -- n ids given back are n more on the stack
 give-depth : (sent : List ℕ) (q n : ℕ) (w : Cleaning) → (give_back sent q n w).free.depth ≡ w.free.depth + n
@@ -124,3 +142,14 @@ module _ (q : ℕ) (addresses : List ℕ) (lists : Handles) (n : ℕ) (w : Sendi
   pub send-none : n ≤ w.count → send_rule q addresses lists (n - w.count) w ≡ w
   unfolding send_rule
   send-none past = let e : n - w.count ≡ 0 = omega arith in rw e
+
+-- the work after one packet more, by the numbers
+module _ (q n tx i : ℕ) (addresses : List ℕ) (lists : Handles) (hands sent ring hands₁ sent₁ ring₁ : List ℕ) where
+  pub send-turn : i < n
+      → sending_as hands₁ sent₁ (next_slot ((tx + i) % SLOTS)) ring₁ (i + 1)
+      ≡ packet_sent q addresses (handle_at lists i) (sending_as hands sent ((tx + i) % SLOTS) ring i)
+      → send_rule q addresses lists (n - (i + 1)) (sending_as hands₁ sent₁ ((tx + (i + 1)) % SLOTS) ring₁ (i + 1))
+      ≡ send_rule q addresses lists (n - i) (sending_as hands sent ((tx + i) % SLOTS) ring i)
+  send-turn below one =
+      let slot : (tx + (i + 1)) % SLOTS ≡ next_slot ((tx + i) % SLOTS) = omega arith in
+      rw (slot, one) (sym (send-step q addresses lists n (sending_as hands sent ((tx + i) % SLOTS) ring i) below))

@@ -3,7 +3,7 @@
 use Prim.Native.Nat.{ℕ, zero, suc, ◌+◌, ◌-◌, ◌≤◌, ◌<◌}
 use mathlib.Core.Path.{◌≡◌, refl, sym, ap, ◌∙◌}
 use mathlib.Core.Bool.{Bool, true, false}
-use mathlib.Core.List.{List, [], ◌∷◌}
+use mathlib.Core.List.{List, [], ◌∷◌, ◌++◌}
 use lib.ListN.{length, get_or, set, take}
 use lib.Seq.{get_or-set_other, set-set, set-get_or}
 use lib.Dec.{eqb, ltb, leb}
@@ -13,6 +13,7 @@ use native.Mathlib.Numerals.{add-one}
 use native.Mathlib.Omega.{arith}
 use borrow.Author.Count.{below_more}
 use borrow.Author.Tests.{eq-eqb, ne_eqb, eqb-true, ltb-true}
+use Rattle.std.proofs.lemmas.List.{length_push, get_or_push, get_or-take, take_at, take-take}
 use Rattle.limits.specs.Limits.{HEADROOM}
 use Rattle.laws.specs.Test.{pick, both, either}
 use Rattle.laws.specs.Occurs.{ind, occurs}
@@ -26,7 +27,8 @@ use Rattle.rules.specs.Verdict.{Done, Refused}
 use Rattle.rules.specs.Handles.{Handles, handle_at}
 use Rattle.rules.specs.Sound.{is_good}
 use Rattle.rules.specs.Refusals.{sendable, handles_verdict}
-use Rattle.sends.specs.Lent.{good_in, sendable_in, marked_in, unmarked_in, GoodRun}
+use Rattle.pool.specs.Good.{good_in}
+use Rattle.sends.specs.Lent.{sendable_in, marked_in, unmarked_in, GoodRun}
 
 -- ---- what a good handle says
 
@@ -147,6 +149,31 @@ module _ (hands ids : List ℕ) where
   pub unmarked-less : (n : ℕ) → 0 < n → unmarked_in hands ids n ≡ unmarked_in (set hands (get_or ids (n - 1) 0) HAND-OUT) ids (n - 1)
   unfolding unmarked_in
   unmarked-less n some = let e : n ≡ suc (n - 1) = omega arith in ap (unmarked_in hands ids) e
+
+-- the last of the ids that are left is taken away
+module _ (ids left rest : List ℕ) (id : ℕ) (front : left ≡ take (length left) ids) (last : left ≡ rest ++ id ∷ []) where
+  more : length left ≡ length rest + 1
+  more = rw last (length_push rest id)
+
+  stands : id ≡ get_or ids (length rest) 0
+  stands =
+      sym (get_or_push rest id 0 (length rest) refl)
+      ∙ ap (λ l. get_or l (length rest) 0) (sym last ∙ front)
+      ∙ get_or-take (length left) ids (length rest) 0 (omega (arith, more))
+
+  pub left-less : length rest < length left
+  left-less = omega (arith, more)
+
+  pub left-front : rest ≡ take (length rest) ids
+  left-front =
+      sym (take_at rest (id ∷ []) (length rest) refl)
+      ∙ ap (take (length rest)) (sym last ∙ front)
+      ∙ take-take (length rest) (length left) ids (omega (arith, more))
+
+  pub left-unmarked : (hands : List ℕ) → unmarked_in (set hands id HAND-OUT) ids (length rest) ≡ unmarked_in hands ids (length left)
+  left-unmarked hands =
+      let before : length left - 1 ≡ length rest = omega (arith, more) in
+      rw stands (sym (rw before at (unmarked-less hands ids (length left) (omega (arith, more)))))
 
 -- ---- a run of handles that can be sent
 

@@ -5,6 +5,7 @@ use Rattle.laws.specs.Test.{both, either}
 use Rattle.laws.specs.Occurs.{occurs}
 use Rattle.pool.specs.declared.Handle.{Handle}
 use Rattle.pool.specs.Hands.{HAND-OUT}
+use Rattle.pool.specs.Good.{good_in}
 use Rattle.rules.specs.Handles.{Handles, handle_at, Room}
 use Rattle.rules.specs.Account.{waiting, send_place}
 use Rattle.rules.specs.Send.{Cleaning, Sending}
@@ -30,14 +31,6 @@ pub record Cleanable (batch : ℕ) (ring sent : List ℕ) (q tx clean depth : �
   pub givable : Givable (waiting tx clean) sent q clean depth
 
 -- ---- the test of a list
-
--- a good handle, by an account's numbers and its record of hands
-unfoldable pub good_in : ℕ → ℕ → ℕ → List ℕ → Handle → Bool
-good_in pool entries size hands h =
-    both (eqb h.pool pool)
-    (both (ltb h.id entries)
-    (both (eqb (get_or hands h.id 0) HAND-OUT)
-    (both (either (eqb h.offset 0) (eqb h.offset HEADROOM)) (leb (h.offset + h.length) size))))
 
 -- good, and its id stands at no place before
 abbrev pub sendable_in : ℕ → ℕ → ℕ → List ℕ → Handles → ℕ → Bool

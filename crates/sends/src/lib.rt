@@ -10,7 +10,7 @@ ghost use Rattle.pool.specs.Hands.{HAND-OUT};
 ghost use Rattle.rules.specs.Handles.{handles, Room};
 ghost use Rattle.rules.specs.Account.{waiting, next_slot};
 ghost use Rattle.rules.specs.Send.{give_back, clean_rule, packet_sent, send_rule};
-ghost use Rattle.sends.specs.Lent.{cleaning_as, Givable, Cleanable, good_in, marked_in, unmarked_in, GoodRun, sending_as, Described, Writable};
+ghost use Rattle.sends.specs.Lent.{cleaning_as, Givable, Cleanable, marked_in, unmarked_in, GoodRun, sending_as, Described, Writable};
 
 use limits::{ENTRIES, HEADROOM, SENDS, SLOTS};
 use pool::{HAND_FREE, HAND_OUT, HAND_SEND, Handle};
@@ -30,20 +30,17 @@ fn give_back(
     requires { Givable n sent.now q clean depth }
     ensures { cleaning_as stack.new (depth + n) hands.new result ≡ give_back sent.now q n (cleaning_as stack.old depth hands.old clean) }
 {
-    let mut slot = clean;
-    let mut deep = depth;
-    for _ in 0..n {
-        let id = sent[q * SLOTS + slot];
-        stack[deep] = id;
+    // By number: the slot is read at it, and the place on the stack is written.
+    for i in 0..n {
+        let id = sent[q * SLOTS + (clean + i) % SLOTS];
+        stack[depth + i] = id;
         hands[id as usize] = HAND_FREE;
-        deep = deep + 1;
-        slot = (slot + 1) % SLOTS;
     }
-    slot
+    (clean + n) % SLOTS
 }
 
 // Where a cleaning ended: the new clean index, and the stack's new depth.
-#[derive(Drop)]
+#[derive(Clone, Copy, PartialEq, Eq, Debug)]
 pub struct Cleaned {
     pub clean: usize,
     pub depth: usize,
@@ -75,7 +72,7 @@ pub fn clean(
             break first;
         }
         first = give_back(sent, q, first, batch, stack, deep, hands);
-        deep = deep + batch;
+        deep += batch;
     };
     Cleaned {
         clean: end,
@@ -84,30 +81,6 @@ pub fn clean(
 }
 
 // ---- the test of a list
-
-// Whether a handle is good.
-fn is_good(pool: u32, entries: usize, size: usize, hands: &[u8; ENTRIES], handle: Handle) -> bool
-    requires { entries ≤ ENTRIES }
-    ensures { result ≡ good_in pool entries size hands.now handle }
-{
-    if handle.pool != pool {
-        return false;
-    }
-    let id = handle.id as usize;
-    if entries <= id {
-        return false;
-    }
-    if hands[id] != HAND_OUT {
-        return false;
-    }
-    let offset = handle.offset as usize;
-    if offset != 0 {
-        if offset != HEADROOM {
-            return false;
-        }
-    }
-    offset + handle.length as usize <= size
-}
 
 // Marks the id of each handle that can be sent, up to the first that can't: one that is not good, or whose id has its mark already.
 fn mark_good(
@@ -125,16 +98,14 @@ fn mark_good(
     ensures run { GoodRun pool entries size hands.old (handles pools.now ids.now offsets.now lengths.now) (length ids.now) result }
     ensures marks { hands.new ≡ marked_in mark hands.old ids.now result }
 {
-    let n = ids.len();
-    for i in 0..n {
+    for (i, id) in ids.iter().enumerate() {
         let handle = lists::at(pools, ids, offsets, lengths, i);
-        if !is_good(pool, entries, size, hands, handle) {
+        if !handle.is_good(pool, entries, size, hands) {
             return i;
         }
-        let id = handle.id as usize;
-        hands[id] = mark;
+        hands[*id as usize] = mark;
     }
-    n
+    ids.len()
 }
 
 // Takes the marks of the first n ids away again, the last one first.
@@ -142,12 +113,8 @@ fn unmark(hands: &mut [u8; ENTRIES], ids: &[u16], n: usize)
     requires { (n ≤ length ids.now) × ((k : ℕ) → k < n → get_or ids.now k 0 < ENTRIES) }
     ensures { hands.new ≡ unmarked_in hands.old ids.now n }
 {
-    let mut left = n;
-    while 0 < left {
-        let last = left - 1;
-        let id = ids[last] as usize;
-        hands[id] = HAND_OUT;
-        left = last;
+    for id in ids[..n].iter().rev() {
+        hands[*id as usize] = HAND_OUT;
     }
 }
 
@@ -176,6 +143,7 @@ pub fn good_run(
 // ---- a send
 
 // A packet's descriptor is written, its id stands at its slot, and is recorded with the queue.
+#[tactic(auto, unfolding(rules::specs::Send::packet_sent))]
 fn put_packet(
     q: usize,
     slot: usize,
@@ -212,11 +180,11 @@ pub fn send(
     requires { Writable n q tx addresses.now ring.old (handles pools.now ids.now offsets.now lengths.now) }
     ensures { sending_as hands.new sent.new result ring.new n ≡ send_rule q addresses.now (handles pools.now ids.now offsets.now lengths.now) n (sending_as hands.old sent.old tx ring.old 0) }
 {
-    let mut slot = tx;
+    // By number: the slot that is written follows from it.
     for count in 0..n {
         let handle = lists::at(pools, ids, offsets, lengths, count);
+        let slot = (tx + count) % SLOTS;
         put_packet(q, slot, handle, ring, addresses, hands, sent);
-        slot = (slot + 1) % SLOTS;
     }
-    slot
+    (tx + n) % SLOTS
 }

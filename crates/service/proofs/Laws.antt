@@ -9,7 +9,7 @@ use native.Mathlib.Nat.{zero-mul, div-div-eq-div-mul, mod-add-div'}
 use native.Mathlib.Omega.{arith}
 use borrow.Author.Tests.{lt-ltb, ltb-true}
 use lib.Dec.{eqb, ltb}
-use lib.ListN.{length, get_or}
+use lib.ListN.{length, get_or, get_or-eq_default}
 use Rattle.laws.specs.Test.{pick}
 use Rattle.card.specs.Registers.{registers, entry, address}
 use Rattle.card.specs.Masks.{changed, link_speed}
@@ -18,12 +18,12 @@ use Rattle.plan.specs.declared.Item.{Item}
 use Rattle.plan.specs.declared.Item.TheVariants as item
 use Rattle.plan.specs.declared.Setup.{Setup}
 use Rattle.plan.specs.Sequence.{MSI, MSIX, for_queue}
+use Rattle.refusals.specs.declared.Refusal.TheVariants.{OutsideMap, NoInterrupt}
 use Rattle.startup.specs.declared.Action.{Action}
 use Rattle.startup.specs.declared.Action.TheVariants.{Read, Write, Pause, Done, Refused}
-use Rattle.startup.specs.Machine.{OUTSIDE, NO-INTERRUPT, SIGNALLED, number_of, in_map}
+use Rattle.startup.specs.Machine.{SIGNALLED, number_of, in_map}
 use Rattle.service.specs.Mac.{mac_of, low_word, high_word}
 use Rattle.service.specs.Actions.{counter_actions, link_actions, mac_actions, set_mac_actions, promisc_actions, msi_actions, msix_actions, disable_actions, guarded, next, counters_call, link_call, mac_call, set_mac_call, promisc_call, enable_call, disable_call}
-use Rattle.service.proofs.Lists.{next-done}
 
 -- an item's actions, where v is the value last read; a wait has no list of its own
 abbrev actions_of : ℕ → Item → List Action
@@ -134,7 +134,7 @@ runs (disable queue) bytes made v q = rw (lt-ltb queue SIGNALLED q)
 
 -- after the last of its actions comes Done
 pub after_last : (call : Call) (bytes made v : ℕ) → Passes call → length (actions call v) ≤ made → answer call bytes made v ≡ Done
-after_last call bytes made v p h = runs call bytes made v p ∙ sym (next-done (actions call v) made h bytes)
+after_last call bytes made v p h = runs call bytes made v p ∙ rw (get_or-eq_default (actions call v) Done h)
 
 -- the register of a read or a write is in the map
 abbrev pub Inside : ℕ → Action → Type 0
@@ -142,7 +142,7 @@ Inside bytes (Read register) = in_map bytes register ≡ true
 Inside bytes (Write register x) = in_map bytes register ≡ true
 Inside bytes (Pause ms) = Unit
 Inside bytes Done = Unit
-Inside bytes (Refused n register) = Unit
+Inside bytes (Refused why) = Unit
 
 module _ (bytes : ℕ) where
   by-test : (b : Bool) (a e : Action) → (b ≡ true → Inside bytes a) → Inside bytes e → Inside bytes (pick b a e)
@@ -150,11 +150,11 @@ module _ (bytes : ℕ) where
   by-test false a e h k = k
 
   guarded-inside : (a : Action) → Inside bytes (guarded bytes a)
-  guarded-inside (Read register) = by-test (in_map bytes register) (Read register) (Refused OUTSIDE register) (λ z. z) tt
-  guarded-inside (Write register x) = by-test (in_map bytes register) (Write register x) (Refused OUTSIDE register) (λ z. z) tt
+  guarded-inside (Read register) = by-test (in_map bytes register) (Read register) (Refused (OutsideMap register)) (λ z. z) tt
+  guarded-inside (Write register x) = by-test (in_map bytes register) (Write register x) (Refused (OutsideMap register)) (λ z. z) tt
   guarded-inside (Pause ms) = tt
   guarded-inside Done = tt
-  guarded-inside (Refused n register) = tt
+  guarded-inside (Refused why) = tt
 
   next-inside : (actions : List Action) (made : ℕ) → Inside bytes (next bytes actions made)
   next-inside actions made = guarded-inside (get_or actions made Done)
@@ -176,7 +176,7 @@ module _ (bytes : ℕ) where
 
 -- a call that is not refused, its number 0, has a queue below 16
 module _ (queue : ℕ) where
-  by-queue : (b : Bool) (a : Action) → ltb queue SIGNALLED ≡ b → number_of (pick b a (Refused NO-INTERRUPT 0)) ≡ 0 → queue < SIGNALLED
+  by-queue : (b : Bool) (a : Action) → ltb queue SIGNALLED ≡ b → number_of (pick b a (Refused NoInterrupt)) ≡ 0 → queue < SIGNALLED
   by-queue true a z e = ltb-true queue SIGNALLED z
   by-queue false a z e = absurd (omega arith)
 

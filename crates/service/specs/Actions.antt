@@ -4,9 +4,10 @@ use Rattle.laws.specs.Test.{pick}
 use Rattle.card.specs.Registers.{address, EICR, EIMS, EIMC, EIAC, EITR, IVAR, GPIE, FCTRL, RAL, RAH, LINKS, GPRC, GPTC, GORCL, GORCH, GOTCL, GOTCH}
 use Rattle.card.specs.Masks.{IRQ-ALL, IRQ-QUEUES, FCTRL-PROMISC, GPIE-MSIX, changed, queue_bit, vector_clear, vector_set}
 use Rattle.plan.specs.Sequence.{MSI, MSIX}
+use Rattle.refusals.specs.declared.Refusal.TheVariants.{OutsideMap, NoInterrupt}
 use Rattle.startup.specs.declared.Action.{Action}
 use Rattle.startup.specs.declared.Action.TheVariants.{Read, Write, Pause, Done, Refused}
-use Rattle.startup.specs.Machine.{OUTSIDE, NO-INTERRUPT, SIGNALLED, in_map}
+use Rattle.startup.specs.Machine.{SIGNALLED, in_map}
 use Rattle.service.specs.Mac.{low_word, high_word}
 
 -- ---- the lists
@@ -84,11 +85,11 @@ disable_actions queue v =
 
 -- 11 in place of an action whose register the map does not hold
 abbrev pub guarded : ℕ → Action → Action
-guarded bytes (Read register) = pick (in_map bytes register) (Read register) (Refused OUTSIDE register)
-guarded bytes (Write register x) = pick (in_map bytes register) (Write register x) (Refused OUTSIDE register)
+guarded bytes (Read register) = pick (in_map bytes register) (Read register) (Refused (OutsideMap register))
+guarded bytes (Write register x) = pick (in_map bytes register) (Write register x) (Refused (OutsideMap register))
 guarded bytes (Pause ms) = Pause ms
 guarded bytes Done = Done
-guarded bytes (Refused n register) = Refused n register
+guarded bytes (Refused why) = Refused why
 
 -- the next of a list's actions, so many made; after the last comes Done
 abbrev pub next : ℕ → List Action → ℕ → Action
@@ -114,9 +115,9 @@ unfoldable pub enable_call : ℕ → ℕ → ℕ → ℕ → ℕ → ℕ → Act
 enable_call bytes kind queue rate made v =
     pick (ltb queue SIGNALLED)
     (pick (eqb kind MSI) (next bytes (msi_actions queue rate v) made)
-    (pick (eqb kind MSIX) (next bytes (msix_actions queue rate v) made) (Refused NO-INTERRUPT 0)))
-    (Refused NO-INTERRUPT 0)
+    (pick (eqb kind MSIX) (next bytes (msix_actions queue rate v) made) (Refused NoInterrupt)))
+    (Refused NoInterrupt)
 
 unfoldable pub disable_call : ℕ → ℕ → ℕ → ℕ → Action
 disable_call bytes queue made v =
-    pick (ltb queue SIGNALLED) (next bytes (disable_actions queue v) made) (Refused NO-INTERRUPT 0)
+    pick (ltb queue SIGNALLED) (next bytes (disable_actions queue v) made) (Refused NoInterrupt)

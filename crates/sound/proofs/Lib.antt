@@ -1,1 +1,4 @@
 pub mod Marks
+mod Chains
+mod Round
+mod Numbered

@@ -1,6 +1,6 @@
 -- How the test goes about it: each id of each list is marked once, and in the end every id that is not out has a mark.
 -- proofs/Marks.antt shows that this is soundness.
-use Rattle.std.specs.Prelude.{ℕ, zero, suc, ◌≤◌, ◌≡◌, Bool, true, false, List, [], ◌∷◌, get_or, set, replicate, eqb, ltb}
+use Rattle.std.specs.Prelude.{ℕ, zero, suc, ◌≤◌, ◌≡◌, Bool, true, false, List, [], ◌∷◌, get_or, set, replicate, eqb, ltb, leb}
 use Rattle.limits.specs.Limits.{ENTRIES}
 use Rattle.laws.specs.Test.{both, either, every}
 use Rattle.pool.specs.Hands.{HAND-OUT}
@@ -39,7 +39,13 @@ settled entries hands seen = every entries (λ id. either (eqb (get_or hands id 
 unfoldable pub in_places : Account → Bool
 in_places a = both (mark_lists a (hands a)).ok (settled a.entries a.hands (mark_lists a (hands a)).seen)
 
--- the tests that come before: numbers, the free count, the receive index, the queues' indices
+-- the tests that come before: numbers, the queues' indices, the free count, the receive index
+abbrev pub numbered : Account → Bool
+numbered a =
+    both (in_range a.entries a.size a.receives a.sends)
+    (both (queues_placed a.sends a.clean a.tx) (both (leb a.free.depth a.entries) (ring_placed a.started a.rx a.receives)))
+
+-- the same as facts
 pub record Numbered (a : Account) : Type 0 where
   pub numbers : in_range a.entries a.size a.receives a.sends ≡ true
   pub free-count : a.free.depth ≤ a.entries

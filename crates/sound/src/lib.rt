@@ -2,219 +2,152 @@
 
 #![tactic(auto)]
 
-ghost use Rattle.std.specs.Prelude.{◌≡◌, ◌+◌, ◌≤◌, ◌<◌, length, take, set};
+ghost use Rattle.std.specs.Prelude.{◌≡◌, ◌+◌, ◌≤◌, ◌<◌, get_or, set, take};
 ghost use Rattle.limits.specs.Limits.{ENTRIES, SENDS, SLOTS};
 ghost use Rattle.laws.specs.Test.{pick};
 ghost use Rattle.pool.specs.Hands.{HAND-SEND};
-ghost use Rattle.rules.specs.Account.{around};
-ghost use Rattle.rules.specs.Sound.{is_size, in_range, indices, ring_placed, queues_placed, sound};
-ghost use Rattle.sound.specs.Marks.{markable, mark_all, settled, Numbered, in_places};
+ghost use Rattle.rules.specs.Account.{send_list};
+ghost use Rattle.rules.specs.Sound.{is_size, in_range, Indices, indices, ring_placed, queues_placed, sound};
+ghost use Rattle.sound.specs.Marks.{markable, mark_all, settled, numbered, Numbered, in_places};
 
 use limits::{BATCH, ENTRIES, RECEIVES, SENDS, SIZE_DOUBLINGS, SLOTS, SMALLEST_SIZE};
-use pool::{HAND_FREE, HAND_OUT, HAND_RECEIVE, HAND_SEND};
+use pool::{FreeStack, HAND_FREE, HAND_OUT, HAND_RECEIVE, HAND_SEND};
 use rules::Account;
 
 // Whether a number is an entry size.
 fn is_size(size: usize) -> bool
     ensures { result ≡ is_size size }
 {
-    let mut power = SMALLEST_SIZE;
-    for _ in 0..SIZE_DOUBLINGS + 1 {
-        if size == power {
-            return true;
-        }
-        power = power * 2;
-    }
-    false
+    (0..SIZE_DOUBLINGS + 1).any(|k| size == SMALLEST_SIZE << k)
 }
 
 // Whether the numbers that an account is made with are in their ranges.
+#[tactic(auto, unfolding(rules::specs::Sound::in_range))]
 pub fn in_range(entries: usize, size: usize, receives: usize, sends: usize) -> bool
     ensures { result ≡ in_range entries size receives sends }
 {
-    if entries == 0 {
-        return false;
-    }
-    if ENTRIES < entries {
-        return false;
-    }
-    if !is_size(size) {
-        return false;
-    }
-    if RECEIVES < receives {
-        return false;
-    }
-    sends <= SENDS
+    0 < entries && entries <= ENTRIES && is_size(size) && receives <= RECEIVES && sends <= SENDS
 }
 
 // Whether the receive ring's index fits its being started or not.
+#[tactic(auto, unfolding(rules::specs::Sound::ring_placed))]
 fn ring_placed(started: bool, rx: usize, receives: usize) -> bool
     ensures { result ≡ ring_placed started rx receives }
 {
-    if SLOTS <= rx {
-        return false;
-    }
-    if started {
-        return 0 < receives;
-    }
-    rx == 0
+    rx < SLOTS && if started { 0 < receives } else { rx == 0 }
 }
 
 // Whether a queue's two indices are in the ring, and the clean index at a whole batch.
+#[tactic(auto, unfolding(rules::specs::Sound::indices))]
 fn index_pair(clean: usize, tx: usize) -> bool
     ensures { result ≡ indices clean tx }
 {
-    if SLOTS <= clean {
-        return false;
-    }
-    if SLOTS <= tx {
-        return false;
-    }
-    clean % BATCH == 0
+    clean < SLOTS && tx < SLOTS && clean % BATCH == 0
 }
 
 // Whether every queue's indices are.
-fn queues_placed(sends: usize, clean: &[usize; SENDS], tx: &[usize; SENDS]) -> bool
-    requires { sends ≤ SENDS }
-    ensures { result ≡ queues_placed sends clean.now tx.now }
+fn queues_placed(account: &Account) -> bool
+    requires { account.now.sends ≤ SENDS }
+    ensures { result ≡ queues_placed account.now.sends account.now.clean account.now.tx }
 {
-    for q in 0..sends {
-        if !index_pair(clean[q], tx[q]) {
-            return false;
-        }
-    }
-    true
+    (0..account.sends).all(|q| index_pair(account.clean[q], account.tx[q]))
 }
 
-// Marks an id of a hand's list, if it may stand there.
-fn mark(id: u16, hand: u8, entries: usize, hands: &[u8; ENTRIES], seen: &mut [u8; ENTRIES]) -> bool
-    requires { entries ≤ ENTRIES }
-    ensures says { result ≡ markable entries hands.now hand seen.old id }
+// Marks an id of a hand's list, if it may stand there. A mark is 1, and none 0: numbers, as `mark_all` of specs/Marks.antt has them.
+fn mark(account: &Account, seen: &mut [u8; ENTRIES], id: u16, hand: u8) -> bool
+    requires { account.now.entries ≤ ENTRIES }
+    ensures says { result ≡ markable account.now.entries account.now.hands hand seen.old id }
     ensures leaves { seen.new ≡ pick result (set seen.old id 1) seen.old }
 {
-    let at = id as usize;
-    if entries <= at {
-        return false;
+    let at = usize::from(id);
+    let may = at < account.entries && account.hands[at] == hand && seen[at] == 0;
+    if may {
+        seen[at] = 1;
     }
-    if hands[at] != hand {
-        return false;
-    }
-    if seen[at] != 0 {
-        return false;
-    }
-    seen[at] = 1;
-    true
+    may
 }
 
-// Marks the first n ids of an array.
-fn mark_first(
-    ids: &[u16],
-    n: usize,
-    hand: u8,
-    entries: usize,
-    hands: &[u8; ENTRIES],
-    seen: &mut [u8; ENTRIES],
-) -> bool
-    requires { (n ≤ length ids.now) × (entries ≤ ENTRIES) }
-    ensures { record { ok = result; seen = seen.new } ≡ mark_all entries hands.now hand (take n ids.now) seen.old }
+// Marks the ids of a hand's list, up to the first that may not stand there.
+fn mark_all(account: &Account, seen: &mut [u8; ENTRIES], ids: &[u16], hand: u8) -> bool
+    requires { account.now.entries ≤ ENTRIES }
+    ensures { record { ok = result; seen = seen.new } ≡ mark_all account.now.entries account.now.hands hand ids.now seen.old }
 {
-    for i in 0..n {
-        if !mark(ids[i], hand, entries, hands, seen) {
+    for &id in ids {
+        if !mark(account, seen, id, hand) {
             return false;
         }
     }
     true
 }
 
-// Marks n ids of a send queue from a slot on, round its ring.
-fn mark_around(
-    sent: &[u16; SENDS * SLOTS],
-    q: usize,
-    clean: usize,
-    n: usize,
-    entries: usize,
-    hands: &[u8; ENTRIES],
-    seen: &mut [u8; ENTRIES],
-) -> bool
-    requires { (q < SENDS) × (clean < SLOTS) × (n ≤ SLOTS) × (entries ≤ ENTRIES) }
-    ensures { record { ok = result; seen = seen.new } ≡ mark_all entries hands.now (HAND-SEND + q) (around sent.now q clean n) seen.old }
+// Marks a send queue's ids, oldest first, round its ring.
+fn mark_queue(account: &Account, seen: &mut [u8; ENTRIES], q: usize) -> bool
+    requires { (q < SENDS) × Indices (get_or account.now.clean q 0) (get_or account.now.tx q 0) × (account.now.entries ≤ ENTRIES) }
+    ensures { record { ok = result; seen = seen.new } ≡ mark_all account.now.entries account.now.hands (HAND-SEND + q) (send_list account.now q) seen.old }
 {
     let hand = HAND_SEND + q as u8;
-    for i in 0..n {
-        let slot = (clean + i) % SLOTS;
-        if !mark(sent[q * SLOTS + slot], hand, entries, hands, seen) {
-            return false;
-        }
+    let ring = &account.sent[q * SLOTS..(q + 1) * SLOTS];
+    let first = account.clean[q];
+    let end = account.tx[q];
+    if first <= end {
+        return mark_all(account, seen, &ring[first..end], hand);
     }
-    true
+    mark_all(account, seen, &ring[first..], hand) && mark_all(account, seen, &ring[..end], hand)
 }
 
 // Whether every id is out or has its mark.
-fn all_settled(entries: usize, hands: &[u8; ENTRIES], seen: &[u8; ENTRIES]) -> bool
-    requires { entries ≤ ENTRIES }
-    ensures { result ≡ settled entries hands.now seen.now }
+fn all_settled(account: &Account, seen: &[u8; ENTRIES]) -> bool
+    requires { account.now.entries ≤ ENTRIES }
+    ensures { result ≡ settled account.now.entries account.now.hands seen.now }
 {
-    for id in 0..entries {
-        if hands[id] != HAND_OUT {
-            if seen[id] != 1 {
-                return false;
-            }
-        }
-    }
-    true
+    (0..account.entries).all(|id| account.hands[id] == HAND_OUT || seen[id] == 1)
+}
+
+// The ids on a stack.
+fn stacked(stack: &FreeStack) -> &[u16]
+    requires { stack.now.depth ≤ ENTRIES }
+    ensures { result.now ≡ take stack.now.depth stack.now.ids }
+{
+    &stack.ids[..stack.depth]
 }
 
 // Whether every id stands in its hand's list and nowhere else, in an account whose numbers and indices are right.
-fn in_places(account: Account) -> bool
-    requires { Numbered account }
-    ensures { result ≡ in_places account }
+fn in_places(account: &Account) -> bool
+    requires { Numbered account.now }
+    ensures { result ≡ in_places account.now }
 {
-    let entries = account.entries;
-    let hands = account.hands;
-    let mut seen = [0u8; ENTRIES];
-    let free = account.free;
-    let ids = free.ids;
-    if !mark_first(&ids, free.depth, HAND_FREE, entries, &hands, &mut seen) {
+    let mut seen = [0; ENTRIES];
+    if !mark_all(account, &mut seen, stacked(&account.free), HAND_FREE) {
         return false;
     }
-    if account.started {
-        let slots = account.slots;
-        if !mark_first(&slots, SLOTS, HAND_RECEIVE, entries, &hands, &mut seen) {
-            return false;
-        }
+    if account.started && !mark_all(account, &mut seen, &account.slots, HAND_RECEIVE) {
+        return false;
     }
-    let sent = account.sent;
-    let clean = account.clean;
-    let tx = account.tx;
     for q in 0..account.sends {
-        let first = clean[q];
-        let pending = (tx[q] + SLOTS - first) % SLOTS;
-        if !mark_around(&sent, q, first, pending, entries, &hands, &mut seen) {
+        if !mark_queue(account, &mut seen, q) {
             return false;
         }
     }
-    all_settled(entries, &hands, &seen)
+    all_settled(account, &seen)
+}
+
+// Whether an account's numbers and indices are right.
+fn is_numbered(account: &Account) -> bool
+    ensures { result ≡ numbered account.now }
+{
+    in_range(
+        account.entries,
+        account.size,
+        account.receives,
+        account.sends,
+    ) && queues_placed(account)
+        && account.free.depth <= account.entries
+        && ring_placed(account.started, account.rx, account.receives)
 }
 
 // Whether an account is sound.
-pub fn is_sound(account: Account) -> bool
-    ensures { result ≡ sound account }
+pub fn is_sound(account: &Account) -> bool
+    ensures { result ≡ sound account.now }
 {
-    let entries = account.entries;
-    if !in_range(entries, account.size, account.receives, account.sends) {
-        return false;
-    }
-    let free = account.free;
-    if entries < free.depth {
-        return false;
-    }
-    if !ring_placed(account.started, account.rx, account.receives) {
-        return false;
-    }
-    let clean = account.clean;
-    let tx = account.tx;
-    if !queues_placed(account.sends, &clean, &tx) {
-        return false;
-    }
-    in_places(account)
+    is_numbered(account) && in_places(account)
 }

@@ -6,17 +6,17 @@ use native.Mathlib.Omega.{arith}
 use borrow.Author.Tests.{ltb-false, le-ltb}
 use lib.Dec.{ltb}
 use Rattle.laws.specs.Test.{pick}
-use Rattle.plan.specs.declared.Interrupts.{Interrupts}
+use Rattle.std.specs.Prelude.{Option}
 use Rattle.startup.specs.Machine.{SHORT, OUT-OF-RANGE, NO-INTERRUPT, in_range, kind_ok}
 use Rattle.startup.specs.SetUp.{set_up_number}
 
 -- the numbers pass
-pub record Passes (receives sends tries : ℕ) (interrupts : Interrupts) (count : ℕ) : Type 0 where
+pub record Passes (receives sends tries : ℕ) (interrupts : Option ℕ) (count : ℕ) : Type 0 where
   pub in-range : in_range receives sends tries ≡ true
   pub enough : receives + sends ≤ count
   pub kind : kind_ok interrupts receives ≡ true
 
-module _ (receives sends tries : ℕ) (interrupts : Interrupts) (count : ℕ) where
+module _ (receives sends tries : ℕ) (interrupts : Option ℕ) (count : ℕ) where
   pub zero-passes : set_up_number receives sends tries interrupts count ≡ 0 → Passes receives sends tries interrupts count
   unfolding set_up_number
   zero-passes = by_tests (in_range receives sends tries) (ltb count (receives + sends)) (kind_ok interrupts receives) refl refl refl

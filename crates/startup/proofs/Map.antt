@@ -1,14 +1,16 @@
--- The registers before a place: what each way out of the test says, and that none need be looked at past the highest, which comes early.
+-- The registers before a place: a test of each in turn, and that none need be looked at past the highest, which comes early.
 -- Assumes nothing.
-use Prim.Native.Nat.{ℕ, ◌+◌, ◌-◌, ◌≤◌, ◌<◌}
-use mathlib.Core.Path.{◌≡◌, refl}
-use mathlib.Core.Bool.{Bool, true, false}
+use Prim.Native.Nat.{ℕ, zero, suc, min, ◌+◌, ◌-◌, ◌≤◌, ◌<◌}
+use mathlib.Core.Path.{◌≡◌, refl, sym, ap, ◌∙◌}
+use mathlib.Core.Bool.{Bool, true, false, ◌&&◌}
+use native.Mathlib.Decide.{dec_lt}
 use native.Mathlib.Omega.{arith}
 use borrow.Author.Tests.{leb-true, le-leb}
 use lib.Dec.{leb, ltb}
+use Rattle.std.specs.List.{list_all, range_with_len}
 use Rattle.limits.specs.Limits.{QUEUES}
-use Rattle.laws.specs.Test.{pick, every}
-use Rattle.laws.proofs.Test.{every_more, every-fails, every-at, every-all}
+use Rattle.laws.specs.Test.{pick, both, every}
+use Rattle.laws.proofs.Test.{both-same, every-at, every-all}
 use Rattle.card.specs.Registers.{ROWS, address, HIGHEST}
 use Rattle.card.proofs.Rule.{address-low}
 use Rattle.parts.specs.Parts.{row_of}
@@ -24,18 +26,34 @@ use Rattle.startup.specs.Machine.{in_map, reachable, item_at, all_passed}
 
 -- ---- the test
 
+both_both : (a b c : Bool) → both (both a b) c ≡ both a (both b c)
+both_both true b c = refl
+both_both false b c = refl
+
+and_both : (a b : Bool) → (a && b) ≡ both a b
+and_both true b = refl
+and_both false b = refl
+
+every_first : (test : ℕ → Bool) (n : ℕ) → every (suc n) test ≡ both (test 0) (every n (λ k. test (suc k)))
+unfolding every
+every_first test zero = sym (both-same (test 0))
+every_first test (suc n) = rw (every_first test n) (both_both (test 0) (every n (λ k. test (suc k))) (test (suc n)))
+
+-- a test of each number from a on is one of every number below n
+every_listed : (test : ℕ → Bool) (n a : ℕ) (of : ℕ → Bool) → ((k : ℕ) → test (a + k) ≡ of k) → list_all test (range_with_len a n) ≡ every n of
+unfolding every
+every_listed test zero a of e = refl
+every_listed test (suc n) a of e =
+    let first : test a ≡ of 0 = ap test (omega arith) ∙ e 0 in
+    let rest = every_listed test n (a + 1) (λ k. of (suc k)) (λ k. ap test (omega arith) ∙ e (suc k)) in
+    rw (first, rest) (and_both (of 0) (every n (λ k. of (suc k))) ∙ sym (every_first of n))
+
 module _ (s : Setup) where
-  pub passed_none : all_passed s 0 ≡ true
-  unfolding all_passed every
-  passed_none = refl
-
-  pub passed-more : (k : ℕ) → all_passed s k ≡ true → reachable s.map (item_at s k) ≡ true → all_passed s (k + 1) ≡ true
+  pub passed_listed : (n : ℕ) → list_all (λ k. reachable s.map (item_at s k)) (range_with_len 0 n) ≡ all_passed s n
   unfolding all_passed
-  passed-more k = every_more (λ k. reachable s.map (item_at s k)) k
-
-  pub passed-fails : (n k : ℕ) → k < n → reachable s.map (item_at s k) ≡ false → all_passed s n ≡ false
-  unfolding all_passed
-  passed-fails n k = every-fails (λ k. reachable s.map (item_at s k)) n k
+  passed_listed n =
+      every_listed (λ k. reachable s.map (item_at s k)) n 0 (λ k. reachable s.map (item_at s k))
+      (λ k. ap (λ j. reachable s.map (item_at s j)) (omega arith))
 
   pub passed-at : (n k : ℕ) → k < n → all_passed s n ≡ true → reachable s.map (item_at s k) ≡ true
   unfolding all_passed
@@ -85,3 +103,21 @@ module _ (s : Setup) (g : Ranged s) where
   -- past the highest register, all are in the map
   pub passed-rest : (n k : ℕ) → HIGHEST-PLACE < k → all_passed s k ≡ true → all_passed s n ≡ true
   passed-rest n k h e = passed-all s n (λ j l. all-reached s g (highest-reached (passed-at s k HIGHEST-PLACE h e)) j)
+
+  -- so as many need be looked at as come up to it
+  pub passed_few : (n : ℕ) → all_passed s (min n (HIGHEST-PLACE + 1)) ≡ all_passed s n
+  passed_few n = by-case (dec_lt HIGHEST-PLACE n)
+    where
+      by-test : (b : Bool) → all_passed s (HIGHEST-PLACE + 1) ≡ b → HIGHEST-PLACE < n → all_passed s (HIGHEST-PLACE + 1) ≡ all_passed s n
+      by-test true e h = e ∙ sym (passed-rest n (HIGHEST-PLACE + 1) (omega arith) e)
+      by-test false e h = by_all (all_passed s n) refl
+        where
+          by_all : (b : Bool) → all_passed s n ≡ b → all_passed s (HIGHEST-PLACE + 1) ≡ all_passed s n
+          by_all true f = passed-all s (HIGHEST-PLACE + 1) (λ k l. passed-at s n k (omega arith) f) ∙ sym f
+          by_all false f = e ∙ sym f
+
+      by-case : Dec (HIGHEST-PLACE < n) → all_passed s (min n (HIGHEST-PLACE + 1)) ≡ all_passed s n
+      by-case (yes h) =
+          let m : min n (HIGHEST-PLACE + 1) ≡ HIGHEST-PLACE + 1 = omega arith in
+          rw m (by-test (all_passed s (HIGHEST-PLACE + 1)) refl h)
+      by-case (no h) = ap (all_passed s) (omega arith)

@@ -1,14 +1,28 @@
 -- The three ways of a step. Assumes nothing.
 use Prim.Native.Nat.{ℕ, ◌+◌}
-use mathlib.Core.Path.{◌≡◌}
+use mathlib.Core.Path.{◌≡◌, refl}
 use mathlib.Core.Bool.{true, false}
 use borrow.Author.Tests.{eq-eqb, ne_eqb}
+use Rattle.std.specs.Option.{unwrap_or}
+use Rattle.plan.specs.declared.Item.{Item}
+use Rattle.plan.specs.declared.Item.TheVariants.{End, Write, Read, Change, WaitSet, WaitClear, Pause, Link}
 use Rattle.startup.specs.declared.Action.TheVariants.{Refused}
 use Rattle.startup.specs.declared.State.{State}
-use Rattle.startup.specs.Machine.{over, here, register_of, acted, step_of}
+use Rattle.startup.specs.Machine.{over, here, register_of, named, kept_refusal, acted, step_of}
+
+-- an item that names no register has 0 for one
+pub named_or : (i : Item) → unwrap_or (named i) 0 ≡ register_of i
+named_or End = refl
+named_or (Write register x) = refl
+named_or (Read register) = refl
+named_or (Change register clear set) = refl
+named_or (WaitSet register mask) = refl
+named_or (WaitClear register mask) = refl
+named_or (Pause ms) = refl
+named_or (Link register) = refl
 
 module _ (s : State) (v : ℕ) where
-  pub step_kept : (s.kept ≡ 0 → ⊥) → step_of s v ≡ record { action = Refused s.kept (register_of (here s)); state = s }
+  pub step_kept : (s.kept ≡ 0 → ⊥) → step_of s v ≡ record { action = Refused (kept_refusal s.kept (register_of (here s))); state = s }
   unfolding step_of
   step_kept k = simp (ne_eqb s.kept 0 k)
 

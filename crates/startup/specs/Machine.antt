@@ -1,15 +1,16 @@
 -- What a step does: an interpreter of the sequence's items. Document 01, "Registers" and the table of numbers.
-use Rattle.std.specs.Prelude.{ℕ, ◌+◌, ◌-◌, ◌*◌, ◌%◌, ◌≤◌, ◌<◌, ◌≡◌, Bool, true, false, not, eqb, leb, ltb, length, get_or}
+use Rattle.std.specs.Prelude.{ℕ, ◌+◌, ◌-◌, ◌*◌, ◌%◌, ◌≤◌, ◌<◌, ◌≡◌, Bool, true, false, not, eqb, leb, ltb, length, get_or, Option, None, Some}
 use Rattle.std.specs.Int.Bits.{bit_and}
 use Rattle.limits.specs.Limits.{QUEUES, TRIES}
 use Rattle.laws.specs.Test.{pick, both, either, every}
 use Rattle.card.specs.Masks.{changed, link_speed}
 use Rattle.plan.specs.Sequence.{RINGS, MSI, MSIX, sequence}
 use Rattle.plan.specs.declared.Setup.{Setup}
-use Rattle.plan.specs.declared.Interrupts.{Interrupts}
-use Rattle.plan.specs.declared.Interrupts.TheVariants.{Off, Kind}
 use Rattle.plan.specs.declared.Item.{Item}
 use Rattle.plan.specs.declared.Item.TheVariants.{End, Write, Read, Change, WaitSet, WaitClear, Pause, Link}
+use Rattle.refusals.specs.declared.Refusal.{Refusal}
+use Rattle.refusals.specs.declared.Refusal.TheVariants.{Unsound, Waited, OutsideMap}
+use Rattle.refusals.specs.Numbers.{refusal_number, refusal_also}
 use Rattle.startup.specs.declared.Action.{Action}
 use Rattle.startup.specs.declared.Action.TheVariants as action
 use Rattle.startup.specs.declared.State.{State}
@@ -57,14 +58,14 @@ number_of (action.Read register) = 0
 number_of (action.Write register x) = 0
 number_of (action.Pause ms) = 0
 number_of action.Done = 0
-number_of (action.Refused number register) = number
+number_of (action.Refused why) = refusal_number why
 
 abbrev pub also_of : Action → ℕ
 also_of (action.Read register) = 0
 also_of (action.Write register x) = 0
 also_of (action.Pause ms) = 0
 also_of action.Done = 0
-also_of (action.Refused number register) = register
+also_of (action.Refused why) = refusal_also why
 
 -- ---- an item
 
@@ -109,7 +110,7 @@ over (Link register) made value = pick (leb LINK-ACTIONS made) true (seen made (
 unfoldable pub waiting : ℕ → ℕ → ℕ → Action
 waiting w register made =
     pick (eqb (made % 2) 0) (action.Read register)
-    (pick (eqb made (2 * w - 1)) (action.Refused WAITED register) (action.Pause WAIT-MS))
+    (pick (eqb made (2 * w - 1)) (action.Refused (Waited register)) (action.Pause WAIT-MS))
 
 -- a change's: the read, then the write of what was read, changed
 unfoldable pub changing : ℕ → ℕ → ℕ → ℕ → ℕ → Action
@@ -152,6 +153,10 @@ has_register (WaitClear register mask) = true
 has_register (Pause ms) = false
 has_register (Link register) = true
 
+-- the register that an item names, if it names one
+abbrev pub named : Item → Option ℕ
+named i = pick (has_register i) (Some (register_of i)) None
+
 -- ---- the map
 
 -- a register is in the map: not above the map's length less 4, and no map is under 4 bytes
@@ -164,7 +169,7 @@ reachable map i = pick (has_register i) (in_map map (register_of i)) true
 
 -- an item's next action, or 11 if its register is not in the map
 unfoldable pub answer : ℕ → ℕ → Item → ℕ → ℕ → Action
-answer map w i made value = pick (reachable map i) (intended w i made value) (action.Refused OUTSIDE (register_of i))
+answer map w i made value = pick (reachable map i) (intended w i made value) (action.Refused (OutsideMap (register_of i)))
 
 -- ---- a step
 
@@ -188,18 +193,22 @@ settled setup place made (action.Read register) = record { action = action.Read 
 settled setup place made (action.Write register x) = record { action = action.Write register x; state = state setup place (made + 1) 0 }
 settled setup place made (action.Pause ms) = record { action = action.Pause ms; state = state setup place (made + 1) 0 }
 settled setup place made action.Done = record { action = action.Done; state = state setup place made 0 }
-settled setup place made (action.Refused n register) = record { action = action.Refused n register; state = state setup place made n }
+settled setup place made (action.Refused why) = record { action = action.Refused why; state = state setup place made (refusal_number why) }
 
 -- the next action at a place
 abbrev pub acted : Setup → ℕ → ℕ → ℕ → Stepped
 acted setup place made value = settled setup place made (answer setup.map setup.tries (item_at setup place) made value)
+
+-- the refusal that a kept number stands for, of an item's register: 11 or 10, as a sound state keeps no other
+abbrev pub kept_refusal : ℕ → ℕ → Refusal
+kept_refusal kept register = pick (eqb kept OUTSIDE) (OutsideMap register) (Waited register)
 
 -- a step of a sound state: a kept refusal again; else the next action of its item, or the first of the next item if its own is over
 unfoldable pub step_of : State → ℕ → Stepped
 step_of s value =
     pick (eqb s.kept 0)
     (pick (over (here s) s.made value) (acted s.setup (s.place + 1) 0 value) (acted s.setup s.place s.made value))
-    (record { action = action.Refused s.kept (register_of (here s)); state = s })
+    (record { action = action.Refused (kept_refusal s.kept (register_of (here s))); state = s })
 
 -- ---- soundness
 
@@ -209,9 +218,9 @@ in_range receives sends tries =
     both (leb receives QUEUES) (both (leb sends QUEUES) (both (not (eqb tries 0)) (leb tries TRIES)))
 
 -- the interrupts can be had: none, or MSI or MSI-X and no queue above 15
-abbrev pub kind_ok : Interrupts → ℕ → Bool
-kind_ok Off receives = true
-kind_ok (Kind kind) receives = both (either (eqb kind MSI) (eqb kind MSIX)) (leb receives SIGNALLED)
+abbrev pub kind_ok : Option ℕ → ℕ → Bool
+kind_ok None receives = true
+kind_ok (Some kind) receives = both (either (eqb kind MSI) (eqb kind MSIX)) (leb receives SIGNALLED)
 
 -- the set-up numbers pass
 unfoldable pub setup_ok : Setup → Bool
@@ -284,4 +293,4 @@ pub record Good (s : State) : Type 0 where
 
 -- a step of any state: 1 if it is not sound
 unfoldable pub stepped : State → ℕ → Stepped
-stepped s value = pick (sound_of s) (step_of s value) (record { action = action.Refused UNSOUND 0; state = s })
+stepped s value = pick (sound_of s) (step_of s value) (record { action = action.Refused Unsound; state = s })

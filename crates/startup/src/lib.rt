@@ -6,23 +6,11 @@
 ghost use Rattle.std.specs.Prelude.{◌≡◌, ◌*◌, ◌≤◌, ◌<◌, length};
 ghost use Rattle.limits.specs.Limits.{TRIES};
 ghost use Rattle.plan.specs.Sequence.{RINGS, Ranged};
-ghost use Rattle.startup.specs.Machine.{link_up, seen, all_set, all_clear, in_map, waiting, cost, over, changing, looking, intended, answer, register_of, has_register, settled, Good, step_of, in_range, kind_ok, setup_ok, waits, is_end, reachable, all_passed, kept_ok, sound_of, stepped};
-ghost use Rattle.startup.specs.SetUp.{set_up_number, copied, no_state, begun};
+ghost use Rattle.startup.specs.Machine.{link_up, seen, in_map, waiting, cost, over, changing, looking, intended, answer, named, kept_refusal, settled, Good, step_of, in_range, kind_ok, setup_ok, waits, is_end, reachable, all_passed, kept_ok, sound_of, start, stepped};
+ghost use Rattle.startup.specs.SetUp.{set_up_number, number_as, copied, no_state, begun_as, begun};
 
-use plan::{Interrupts, Item, Setup};
-
-// Document 01's numbers of a refusal.
-pub const UNSOUND: u32 = 1;
-
-pub const SHORT: u32 = 2;
-
-pub const OUT_OF_RANGE: u32 = 9;
-
-pub const WAITED: u32 = 10;
-
-pub const OUTSIDE: u32 = 11;
-
-pub const NO_INTERRUPT: u32 = 12;
+use plan::{Item, Setup};
+use refusals::Refusal;
 
 // The pause between two reads of a wait, in milliseconds.
 pub const WAIT_MS: u32 = 100;
@@ -40,10 +28,11 @@ pub enum Action {
     Write(u32, u32),
     Pause(u32),
     Done,
-    Refused(u32, u32),
+    Refused(Refusal),
 }
 
-// A start-up: its set-up, the item that it is at, how many of the item's actions were made, and the number of a kept refusal.
+// A start-up: its set-up, the item that it is at, how many of the item's actions were made, and the number of a kept refusal. That stays a
+// number, in a sound state 0, 10 or 11: document 01 has forged states refused with 1 (`is_sound`), and one may hold any number.
 #[derive(Clone, Copy)]
 pub struct State {
     pub setup: Setup,
@@ -59,42 +48,22 @@ pub struct Stepped {
     pub state: State,
 }
 
-// What a set-up answers: 0 and the state to give the first step, or a refusal's number and a state that is not sound.
-#[derive(Clone, Copy)]
-pub struct Begun {
-    pub number: u32,
-    pub state: State,
-}
-
 // ---- an item
 
 // Is the link up, at some speed?
+#[tactic(auto, unfolding(crate::specs::Machine::link_up))]
 fn link_up(value: u32) -> bool
     ensures { result ≡ link_up value }
 {
     card::link_speed(value) != 0
 }
 
-fn all_set(value: u32, mask: u32) -> bool
-    ensures { result ≡ all_set value mask }
-{
-    value & mask == mask
-}
-
-fn all_clear(value: u32, mask: u32) -> bool
-    ensures { result ≡ all_clear value mask }
-{
-    value & mask == 0
-}
-
 // A test of what was read, which only counts after a read.
+#[tactic(auto, unfolding(crate::specs::Machine::seen))]
 fn seen_now(made: usize, test: bool) -> bool
     ensures { result ≡ seen made test }
 {
-    if made % 2 == 0 {
-        return false;
-    }
-    test
+    made % 2 == 1 && test
 }
 
 // The most actions that an item has, with so many reads to a wait.
@@ -104,12 +73,9 @@ fn cost_of(tries: usize, item: Item) -> usize
 {
     match item {
         Item::End => 0,
-        Item::Write(_, _) => 1,
-        Item::Read(_) => 1,
+        Item::Write(_, _) | Item::Read(_) | Item::Pause(_) => 1,
         Item::Change(_, _, _) => 2,
-        Item::WaitSet(_, _) => 2 * tries - 1,
-        Item::WaitClear(_, _) => 2 * tries - 1,
-        Item::Pause(_) => 1,
+        Item::WaitSet(_, _) | Item::WaitClear(_, _) => 2 * tries - 1,
         Item::Link(_) => LINK_ACTIONS,
     }
 }
@@ -120,46 +86,16 @@ fn is_over(item: Item, made: usize, value: u32) -> bool
 {
     match item {
         Item::End => false,
-        Item::Write(_, _) => made >= 1,
-        Item::Read(_) => made >= 1,
+        Item::Write(_, _) | Item::Read(_) | Item::Pause(_) => made >= 1,
         Item::Change(_, _, _) => made >= 2,
-        Item::WaitSet(_, mask) => seen_now(made, all_set(value, mask)),
-        Item::WaitClear(_, mask) => seen_now(made, all_clear(value, mask)),
-        Item::Pause(_) => made >= 1,
-        Item::Link(_) => {
-            if made >= LINK_ACTIONS {
-                return true;
-            }
-            seen_now(made, link_up(value))
-        }
+        Item::WaitSet(_, mask) => seen_now(made, value & mask == mask),
+        Item::WaitClear(_, mask) => seen_now(made, value & mask == 0),
+        Item::Link(_) => made >= LINK_ACTIONS || seen_now(made, link_up(value)),
     }
 }
 
-// A wait's next action: a read, a pause, or 10 if that was the last read.
-fn next_wait(tries: usize, register: u32, made: usize) -> Action
-    requires { (0 < tries) × (tries ≤ TRIES) }
-    ensures { result ≡ waiting tries register made }
-{
-    if made % 2 == 0 {
-        return Action::Read(register);
-    }
-    if made == 2 * tries - 1 {
-        return Action::Refused(WAITED, register);
-    }
-    Action::Pause(WAIT_MS)
-}
-
-// A change's: the read, then the write of what was read, changed.
-fn next_change(register: u32, clear: u32, set: u32, made: usize, value: u32) -> Action
-    ensures { result ≡ changing register clear set made value }
-{
-    if made == 0 {
-        return Action::Read(register);
-    }
-    Action::Write(register, card::changed_word(value, clear, set))
-}
-
-// The link wait's: a read or a pause.
+// The link wait's next action: a read or a pause.
+#[tactic(auto, unfolding(crate::specs::Machine::looking))]
 fn next_look(register: u32, made: usize) -> Action
     ensures { result ≡ looking register made }
 {
@@ -167,6 +103,29 @@ fn next_look(register: u32, made: usize) -> Action
         return Action::Read(register);
     }
     Action::Pause(WAIT_MS)
+}
+
+// A wait's: a read or a pause, or 10 if that was the last read.
+#[tactic(auto, unfolding(crate::specs::Machine::waiting, crate::specs::Machine::looking))]
+fn next_wait(tries: usize, register: u32, made: usize) -> Action
+    requires { (0 < tries) × (tries ≤ TRIES) }
+    ensures { result ≡ waiting tries register made }
+{
+    if made == 2 * tries - 1 {
+        return Action::Refused(Refusal::Waited(register));
+    }
+    next_look(register, made)
+}
+
+// A change's: the read, then the write of what was read, changed.
+#[tactic(auto, unfolding(crate::specs::Machine::changing))]
+fn next_change(register: u32, clear: u32, set: u32, made: usize, value: u32) -> Action
+    ensures { result ≡ changing register clear set made value }
+{
+    if made == 0 {
+        return Action::Read(register);
+    }
+    Action::Write(register, card::changed_word(value, clear, set))
 }
 
 // An item's next action, if its register is in the map.
@@ -179,64 +138,48 @@ fn next_action(tries: usize, item: Item, made: usize, value: u32) -> Action
         Item::Write(register, x) => Action::Write(register, x),
         Item::Read(register) => Action::Read(register),
         Item::Change(register, clear, set) => next_change(register, clear, set, made, value),
-        Item::WaitSet(register, _) => next_wait(tries, register, made),
-        Item::WaitClear(register, _) => next_wait(tries, register, made),
+        Item::WaitSet(register, _) | Item::WaitClear(register, _) => {
+            next_wait(tries, register, made)
+        }
         Item::Pause(ms) => Action::Pause(ms),
         Item::Link(register) => next_look(register, made),
     }
 }
 
-// The register that an item names.
-fn register_of(item: Item) -> u32
-    ensures { result ≡ register_of item }
+// The register that an item names, if it names one.
+fn register_of(item: Item) -> Option<u32>
+    ensures { result ≡ named item }
 {
     match item {
-        Item::End => 0,
-        Item::Write(register, _) => register,
-        Item::Read(register) => register,
-        Item::Change(register, _, _) => register,
-        Item::WaitSet(register, _) => register,
-        Item::WaitClear(register, _) => register,
-        Item::Pause(_) => 0,
-        Item::Link(register) => register,
-    }
-}
-
-fn has_register(item: Item) -> bool
-    ensures { result ≡ has_register item }
-{
-    match item {
-        Item::End => false,
-        Item::Write(_, _) => true,
-        Item::Read(_) => true,
-        Item::Change(_, _, _) => true,
-        Item::WaitSet(_, _) => true,
-        Item::WaitClear(_, _) => true,
-        Item::Pause(_) => false,
-        Item::Link(_) => true,
+        Item::End | Item::Pause(_) => None,
+        Item::Write(register, _)
+        | Item::Read(register)
+        | Item::Change(register, _, _)
+        | Item::WaitSet(register, _)
+        | Item::WaitClear(register, _)
+        | Item::Link(register) => Some(register),
     }
 }
 
 // ---- the map
 
 // A register is in the map.
+#[tactic(auto, unfolding(crate::specs::Machine::in_map))]
 pub fn in_map(map: u64, register: u32) -> bool
     ensures { result ≡ in_map map register }
 {
-    if map < 4 {
-        return false;
-    }
-    register as u64 <= map - 4
+    map >= 4 && register as u64 <= map - 4
 }
 
 // An item's register, if it has one, is in the map.
+#[tactic(auto, unfolding(crate::specs::Machine::reachable))]
 fn reaches(map: u64, item: Item) -> bool
     ensures { result ≡ reachable map item }
 {
-    if has_register(item) {
-        return in_map(map, register_of(item));
+    match register_of(item) {
+        Some(register) => in_map(map, register),
+        None => true,
     }
-    true
 }
 
 // The registers of the items before a place are in the map. The highest of all comes early: past it none need be looked at.
@@ -244,29 +187,20 @@ fn passed(setup: Setup, place: usize) -> bool
     requires { Ranged setup }
     ensures { result ≡ all_passed setup place }
 {
-    let map = setup.map;
-    let mut k = 0;
-    while k < place {
-        if k > plan::HIGHEST_PLACE {
-            return true;
-        }
-        if !reaches(map, plan::item_at(setup, k)) {
-            return false;
-        }
-        k += 1;
-    }
-    true
+    let most = place.min(plan::HIGHEST_PLACE + 1);
+    (0..most).all(|k| reaches(setup.map, plan::item_at(setup, k)))
 }
 
 // An item's next action, or 11 if its register is not in the map.
+#[tactic(auto, unfolding(crate::specs::Machine::answer, crate::specs::Machine::reachable))]
 fn answer_of(map: u64, tries: usize, item: Item, made: usize, value: u32) -> Action
     requires { (0 < tries) × (tries ≤ TRIES) }
     ensures { result ≡ answer map tries item made value }
 {
-    if reaches(map, item) {
-        return next_action(tries, item, made, value);
+    match register_of(item) {
+        Some(register) if !in_map(map, register) => Action::Refused(Refusal::OutsideMap(register)),
+        _ => next_action(tries, item, made, value),
     }
-    Action::Refused(OUTSIDE, register_of(item))
 }
 
 // ---- a step of a sound state
@@ -276,52 +210,29 @@ fn settle(setup: Setup, place: usize, made: usize, action: Action) -> Stepped
     requires { made < 2 * TRIES }
     ensures { result ≡ settled setup place made action }
 {
-    match action {
-        Action::Read(_) => Stepped {
-            action,
-            state: State {
-                setup,
-                place,
-                made: made + 1,
-                kept: 0,
-            },
+    let (made, kept) = match action {
+        Action::Read(_) | Action::Write(_, _) | Action::Pause(_) => (made + 1, 0),
+        Action::Done => (made, 0),
+        Action::Refused(why) => (made, why.number() as u32),
+    };
+    Stepped {
+        action,
+        state: State {
+            setup,
+            place,
+            made,
+            kept,
         },
-        Action::Write(_, _) => Stepped {
-            action,
-            state: State {
-                setup,
-                place,
-                made: made + 1,
-                kept: 0,
-            },
-        },
-        Action::Pause(_) => Stepped {
-            action,
-            state: State {
-                setup,
-                place,
-                made: made + 1,
-                kept: 0,
-            },
-        },
-        Action::Done => Stepped {
-            action,
-            state: State {
-                setup,
-                place,
-                made,
-                kept: 0,
-            },
-        },
-        Action::Refused(number, _) => Stepped {
-            action,
-            state: State {
-                setup,
-                place,
-                made,
-                kept: number,
-            },
-        },
+    }
+}
+
+// The refusal that a kept number stands for, of an item's register: 11 it is outside the map, else 10 its wait failed.
+fn kept_refusal(kept: u32, register: u32) -> Refusal
+    ensures { result ≡ kept_refusal kept register }
+{
+    match kept {
+        11 => Refusal::OutsideMap(register),
+        _ => Refusal::Waited(register),
     }
 }
 
@@ -332,11 +243,11 @@ fn advance(state: State, value: u32) -> Stepped
     let setup = state.setup;
     let place = state.place;
     let made = state.made;
-    let kept = state.kept;
     let item = plan::item_at(setup, place);
-    if kept != 0 {
+    if state.kept != 0 {
+        let why = kept_refusal(state.kept, register_of(item).unwrap_or(0));
         return Stepped {
-            action: Action::Refused(kept, register_of(item)),
+            action: Action::Refused(why),
             state,
         };
     }
@@ -352,143 +263,82 @@ fn advance(state: State, value: u32) -> Stepped
 // ---- soundness
 
 // The queue counts and the reads of a wait are in range.
+#[tactic(auto, unfolding(crate::specs::Machine::in_range))]
 fn in_range(receives: usize, sends: usize, tries: usize) -> bool
     ensures { result ≡ in_range receives sends tries }
 {
-    if receives > limits::QUEUES {
-        return false;
-    }
-    if sends > limits::QUEUES {
-        return false;
-    }
-    if tries == 0 {
-        return false;
-    }
-    tries <= limits::TRIES
+    receives <= limits::QUEUES && sends <= limits::QUEUES && tries != 0 && tries <= limits::TRIES
 }
 
 // The interrupts can be had: none, or a known kind and a bit in the masks for each receive queue.
-fn kind_ok(interrupts: Interrupts, receives: usize) -> bool
+fn kind_ok(interrupts: Option<u64>, receives: usize) -> bool
     ensures { result ≡ kind_ok interrupts receives }
 {
     match interrupts {
-        Interrupts::Off => true,
-        Interrupts::Kind(kind) => {
-            if kind == plan::MSI {
-                return receives <= SIGNALLED;
-            }
-            if kind == plan::MSIX {
-                return receives <= SIGNALLED;
-            }
-            false
-        }
+        None => true,
+        Some(kind) => (kind == plan::MSI || kind == plan::MSIX) && receives <= SIGNALLED,
     }
 }
 
 // The set-up numbers pass.
+#[tactic(auto, unfolding(crate::specs::Machine::setup_ok))]
 fn setup_ok(setup: Setup) -> bool
     ensures { result ≡ setup_ok setup }
 {
-    if !in_range(setup.receives, setup.sends, setup.tries) {
-        return false;
-    }
-    let interrupts = setup.interrupts;
-    kind_ok(interrupts, setup.receives)
+    in_range(setup.receives, setup.sends, setup.tries) && kind_ok(setup.interrupts, setup.receives)
 }
 
 fn is_wait(item: Item) -> bool
     ensures { result ≡ waits item }
 {
-    match item {
-        Item::End => false,
-        Item::Write(_, _) => false,
-        Item::Read(_) => false,
-        Item::Change(_, _, _) => false,
-        Item::WaitSet(_, _) => true,
-        Item::WaitClear(_, _) => true,
-        Item::Pause(_) => false,
-        Item::Link(_) => false,
-    }
+    matches!(item, Item::WaitSet(_, _) | Item::WaitClear(_, _))
 }
 
 fn is_end(item: Item) -> bool
     ensures { result ≡ is_end item }
 {
-    match item {
-        Item::End => true,
-        Item::Write(_, _) => false,
-        Item::Read(_) => false,
-        Item::Change(_, _, _) => false,
-        Item::WaitSet(_, _) => false,
-        Item::WaitClear(_, _) => false,
-        Item::Pause(_) => false,
-        Item::Link(_) => false,
-    }
+    matches!(item, Item::End)
 }
 
-// The actions made and the kept refusal are those of the item at a place.
+// The actions made and the kept refusal's number are those of the item at a place: 10 a wait that failed, 11 a register outside the map.
+#[tactic(auto, unfolding(crate::specs::Machine::kept_ok))]
 fn kept_ok(map: u64, tries: usize, item: Item, place: usize, made: usize, kept: u32) -> bool
     requires { (0 < tries) × (tries ≤ TRIES) }
     ensures { result ≡ kept_ok map tries item place made kept }
 {
-    if kept == OUTSIDE {
-        if made != 0 {
-            return false;
-        }
-        return !reaches(map, item);
+    match kept {
+        0 if made == 0 => place == 0 || is_end(item),
+        0 => reaches(map, item) && made <= cost_of(tries, item),
+        10 => is_wait(item) && reaches(map, item) && made == cost_of(tries, item),
+        11 => made == 0 && !reaches(map, item),
+        _ => false,
     }
-    if kept == WAITED {
-        if !is_wait(item) {
-            return false;
-        }
-        if !reaches(map, item) {
-            return false;
-        }
-        return made == cost_of(tries, item);
-    }
-    if kept != 0 {
-        return false;
-    }
-    if made == 0 {
-        if place == 0 {
-            return true;
-        }
-        return is_end(item);
-    }
-    if !reaches(map, item) {
-        return false;
-    }
-    made <= cost_of(tries, item)
 }
 
 // A state is sound: its set-up numbers pass, and its place and kept refusal are its sequence's.
+#[tactic(auto, unfolding(crate::specs::Machine::sound_of, crate::specs::Machine::setup_ok, crate::specs::Machine::in_range))]
 pub fn is_sound(state: State) -> bool
     ensures { result ≡ sound_of state }
 {
     let setup = state.setup;
     let place = state.place;
-    if !setup_ok(setup) {
-        return false;
-    }
-    if plan::count(setup) < place {
-        return false;
-    }
-    if !passed(setup, place) {
-        return false;
-    }
-    kept_ok(
-        setup.map,
-        setup.tries,
-        plan::item_at(setup, place),
-        place,
-        state.made,
-        state.kept,
-    )
+    setup_ok(setup)
+        && place <= plan::count(setup)
+        && passed(setup, place)
+        && kept_ok(
+            setup.map,
+            setup.tries,
+            plan::item_at(setup, place),
+            place,
+            state.made,
+            state.kept,
+        )
 }
 
 // ---- the calls
 
 // A step: the next action, for the value last read. A state that is not sound gets 1 and stays; a refusal is repeated; after Done comes Done.
+#[tactic(auto, unfolding(crate::specs::Machine::stepped))]
 pub fn step(state: State, value: u32) -> Stepped
     ensures { result ≡ stepped state value }
 {
@@ -496,31 +346,32 @@ pub fn step(state: State, value: u32) -> Stepped
         return advance(state, value);
     }
     Stepped {
-        action: Action::Refused(UNSOUND, 0),
+        action: Action::Refused(Refusal::Unsound),
         state,
     }
 }
 
-// A set-up's number: 9, 2 and 12, in that order, or 0.
-fn set_up_number(
+// The tests of a set-up: 9, 2 and 12, in that order.
+#[tactic(auto, unfolding(crate::specs::SetUp::set_up_number, crate::specs::Machine::in_range))]
+fn checked(
     receives: usize,
     sends: usize,
     tries: usize,
-    interrupts: Interrupts,
+    interrupts: Option<u64>,
     count: usize,
-) -> u32
-    ensures { result ≡ set_up_number receives sends tries interrupts count }
+) -> Result<(), Refusal>
+    ensures { number_as result ≡ set_up_number receives sends tries interrupts count }
 {
     if !in_range(receives, sends, tries) {
-        return OUT_OF_RANGE;
+        return Err(Refusal::OutOfRange);
     }
     if count < receives + sends {
-        return SHORT;
+        return Err(Refusal::WrongSize);
     }
     if !kind_ok(interrupts, receives) {
-        return NO_INTERRUPT;
+        return Err(Refusal::NoInterrupt);
     }
-    0
+    Ok(())
 }
 
 // The first addresses of a list, in an array of zeros.
@@ -529,70 +380,61 @@ fn copy(addresses: &[u64], count: usize) -> [u64; plan::RINGS]
     ensures { result ≡ copied addresses.now count }
 {
     let mut rings = [0; plan::RINGS];
-    let mut i = 0;
-    while i < count {
-        rings[i] = addresses[i];
-        i += 1;
-    }
+    rings[..count].copy_from_slice(&addresses[..count]);
     rings
 }
 
-// The state that a refused set-up leaves: no reads to a wait, so it is not sound.
-fn no_state() -> State
-    ensures { result ≡ no_state }
+// The first state of a set-up.
+fn start(setup: Setup) -> State
+    ensures { result ≡ start setup }
 {
     State {
-        setup: Setup {
-            map: 0,
-            receives: 0,
-            sends: 0,
-            tries: 0,
-            interrupts: Interrupts::Off,
-            rate: 0,
-            rings: [0; plan::RINGS],
-        },
+        setup,
         place: 0,
         made: 0,
         kept: 0,
     }
 }
 
+// The state of a caller that has had none from a set-up: no reads to a wait, so it is not sound.
+#[tactic(auto, unfolding(crate::specs::SetUp::no_state))]
+pub fn no_state() -> State
+    ensures { result ≡ no_state }
+{
+    start(Setup {
+        map: 0,
+        receives: 0,
+        sends: 0,
+        tries: 0,
+        interrupts: None,
+        rate: 0,
+        rings: [0; plan::RINGS],
+    })
+}
+
 // A set-up: 9 for a number out of range, 2 for fewer addresses than queues, 12 for interrupts that can't be had; else the first state.
 // The addresses are copied. Map length and throttle rate are taken as they are.
+#[tactic(auto, unfolding(crate::specs::SetUp::begun, crate::specs::SetUp::set_up_number, crate::specs::Machine::in_range))]
 pub fn set_up(
     map: u64,
     receives: usize,
     sends: usize,
     tries: usize,
-    interrupts: Interrupts,
+    interrupts: Option<u64>,
     rate: u32,
     addresses: &[u64],
-) -> Begun
-    ensures { result ≡ begun map receives sends tries interrupts rate addresses.now }
+) -> Result<State, Refusal>
+    ensures { begun_as result ≡ begun map receives sends tries interrupts rate addresses.now }
 {
-    let number = set_up_number(receives, sends, tries, interrupts, addresses.len());
-    if number != 0 {
-        return Begun {
-            number,
-            state: no_state(),
-        };
-    }
+    checked(receives, sends, tries, interrupts, addresses.len())?;
     let rings = copy(addresses, receives + sends);
-    Begun {
-        number: 0,
-        state: State {
-            setup: Setup {
-                map,
-                receives,
-                sends,
-                tries,
-                interrupts,
-                rate,
-                rings,
-            },
-            place: 0,
-            made: 0,
-            kept: 0,
-        },
-    }
+    Ok(start(Setup {
+        map,
+        receives,
+        sends,
+        tries,
+        interrupts,
+        rate,
+        rings,
+    }))
 }

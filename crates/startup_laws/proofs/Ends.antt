@@ -9,10 +9,11 @@ use Rattle.laws.specs.Test.{pick}
 use Rattle.plan.specs.declared.Setup.{Setup}
 use Rattle.plan.specs.declared.Item.{Item}
 use Rattle.plan.specs.declared.Item.TheVariants.{End, Write, Read, Change, WaitSet, WaitClear, Pause, Link}
+use Rattle.refusals.specs.declared.Refusal.TheVariants.{OutsideMap}
 use Rattle.startup.specs.declared.Action.{Action}
 use Rattle.startup.specs.declared.Action.TheVariants as action
 use Rattle.startup.specs.declared.State.{State}
-use Rattle.startup.specs.Machine.{OUTSIDE, over, waiting, looking, changing, intended, answer, reachable, register_of, settled, acted, item_at, here, state, step_of, stepped, Sound}
+use Rattle.startup.specs.Machine.{over, waiting, looking, changing, intended, answer, reachable, register_of, settled, acted, item_at, here, state, step_of, stepped, Sound}
 use Rattle.startup.proofs.Ways.{step_kept, step-next, step-here}
 use Rattle.startup_laws.proofs.Keeps.{differ, sound-steps, stays-sound}
 
@@ -21,7 +22,7 @@ is_done (action.Read register) = false
 is_done (action.Write register x) = false
 is_done (action.Pause ms) = false
 is_done action.Done = true
-is_done (action.Refused n register) = false
+is_done (action.Refused why) = false
 
 either-not : (b : Bool) (x y : Action) → is_done x ≡ false → is_done y ≡ false → is_done (pick b x y) ≡ false
 either-not true x y p q = p
@@ -31,7 +32,7 @@ either-not false x y p q = q
 module _ (map w made v : ℕ) where
   outside-not : (i : Item) → is_done (intended w i made v) ≡ false → is_done (answer map w i made v) ≡ false
   unfolding answer
-  outside-not i h = either-not (reachable map i) (intended w i made v) (action.Refused OUTSIDE (register_of i)) h refl
+  outside-not i h = either-not (reachable map i) (intended w i made v) (action.Refused (OutsideMap (register_of i))) h refl
 
   end-or-not : (i : Item) → (i ≡ End) ⊎ (is_done (answer map w i made v) ≡ false)
   unfolding waiting looking changing
@@ -52,7 +53,7 @@ settled-action setup place made (action.Read register) = refl
 settled-action setup place made (action.Write register x) = refl
 settled-action setup place made (action.Pause ms) = refl
 settled-action setup place made action.Done = refl
-settled-action setup place made (action.Refused n register) = refl
+settled-action setup place made (action.Refused why) = refl
 
 module _ (setup : Setup) (place made : ℕ) where
   -- at the end, an action is Done and changes nothing

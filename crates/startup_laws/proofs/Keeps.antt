@@ -19,11 +19,14 @@ use Rattle.plan.specs.Sequence.{sequence}
 use Rattle.plan.specs.declared.Setup.{Setup}
 use Rattle.plan.specs.declared.Item.{Item}
 use Rattle.plan.specs.declared.Item.TheVariants.{End, Write, Read, Change, WaitSet, WaitClear, Pause, Link}
+use Rattle.refusals.specs.declared.Refusal.{Refusal}
+use Rattle.refusals.specs.declared.Refusal.TheVariants.{Waited, OutsideMap}
+use Rattle.refusals.specs.Numbers.{refusal_number, refusal_also}
 use Rattle.startup.specs.declared.Action.{Action}
 use Rattle.startup.specs.declared.Action.TheVariants as action
 use Rattle.startup.specs.declared.State.{State}
 use Rattle.startup.specs.declared.Stepped.{Stepped}
-use Rattle.startup.specs.Machine.{WAIT-MS, WAITED, OUTSIDE, LINK-ACTIONS, seen, link_up, cost, over, waiting, looking, changing, intended, answer, reachable, waits, register_of, settled, item_at, here, state, step_of, stepped, Kept, first, done, begun, failed, outside, Sound}
+use Rattle.startup.specs.Machine.{WAIT-MS, WAITED, OUTSIDE, LINK-ACTIONS, seen, link_up, cost, over, waiting, looking, changing, intended, answer, reachable, waits, register_of, kept_refusal, settled, item_at, here, state, step_of, stepped, Kept, first, done, begun, failed, outside, Sound}
 use Rattle.startup.proofs.Sound.{made-most, facts-sound}
 use Rattle.startup.proofs.Ways.{step_kept, step-next, step-here}
 use Rattle.startup_laws.specs.Run.{ends, Ends, now, later, total, left}
@@ -31,24 +34,49 @@ use Rattle.startup_laws.specs.Run.{ends, Ends, now, later, total, left}
 pub differ : true ≡ false → ⊥
 differ e = let z : ◌≡◌ {A = ℕ} 0 1 = cc in omega arith
 
--- a refusal is kept with its number, which is 10 or 11, and the item's register
+-- a refusal is kept with its number, and is 10 or 11 with the item's register
 abbrev Again : Item → Stepped → Type 0
 Again i r =
-    (n register : ℕ) → r.action ≡ action.Refused n register
-    → (r.state.kept ≡ n) × (register_of i ≡ register) × ((n ≡ WAITED) ⊎ (n ≡ OUTSIDE))
+    (why : Refusal) → r.action ≡ action.Refused why
+    → (r.state.kept ≡ refusal_number why) × ((why ≡ Waited (register_of i)) ⊎ (why ≡ OutsideMap (register_of i)))
 
-quiet : {X : Type 0} (a : Action) → ends a ≡ false → (n register : ℕ) → a ≡ action.Refused n register → X
-quiet a e n register f = absurd (differ (sym (ap ends f) ∙ e))
+quiet : {X : Type 0} (a : Action) → ends a ≡ false → (why : Refusal) → a ≡ action.Refused why → X
+quiet a e why f = absurd (differ (sym (ap ends f) ∙ e))
 
-kept_again : (i : Item) (m register : ℕ) (t : State) → t.kept ≡ m → register_of i ≡ register → (m ≡ WAITED) ⊎ (m ≡ OUTSIDE)
-    → Again i (record { action = action.Refused m register; state = t })
-kept_again i m register t k g which n register' f =
-    let e : m ≡ n = cc in
-    (cc, cc, by_number which e)
+kept_again : (i : Item) (why : Refusal) (t : State) → t.kept ≡ refusal_number why → (why ≡ Waited (register_of i)) ⊎ (why ≡ OutsideMap (register_of i))
+    → Again i (record { action = action.Refused why; state = t })
+kept_again i why t k which why' f =
+    let e : why ≡ why' = cc in
+    (k ∙ ap refusal_number e, by_case which e)
   where
-    by_number : (m ≡ WAITED) ⊎ (m ≡ OUTSIDE) → m ≡ n → (n ≡ WAITED) ⊎ (n ≡ OUTSIDE)
-    by_number (inl z) e = inl (sym e ∙ z)
-    by_number (inr z) e = inr (sym e ∙ z)
+    by_case : (why ≡ Waited (register_of i)) ⊎ (why ≡ OutsideMap (register_of i)) → why ≡ why'
+        → (why' ≡ Waited (register_of i)) ⊎ (why' ≡ OutsideMap (register_of i))
+    by_case (inl z) e = inl (sym e ∙ z)
+    by_case (inr z) e = inr (sym e ∙ z)
+
+-- a kept number, 10 or 11, is its refusal's, and the refusal has the register
+module _ (n register : ℕ) where
+  number-kept : (n ≡ WAITED) ⊎ (n ≡ OUTSIDE) → n ≡ refusal_number (kept_refusal n register)
+  number-kept (inl k) = rw k
+  number-kept (inr k) = rw k
+
+  which-kept : (n ≡ WAITED) ⊎ (n ≡ OUTSIDE) → (kept_refusal n register ≡ Waited register) ⊎ (kept_refusal n register ≡ OutsideMap register)
+  which-kept (inl k) = inl (rw k)
+  which-kept (inr k) = inr (rw k)
+
+-- and the other way
+module _ (why : Refusal) (register : ℕ) where
+  again-kept : (why ≡ Waited register) ⊎ (why ≡ OutsideMap register) → kept_refusal (refusal_number why) register ≡ why
+  again-kept (inl z) = rw z
+  again-kept (inr z) = rw z
+
+  number-of : (why ≡ Waited register) ⊎ (why ≡ OutsideMap register) → (refusal_number why ≡ WAITED) ⊎ (refusal_number why ≡ OUTSIDE)
+  number-of (inl z) = inl (rw z)
+  number-of (inr z) = inr (rw z)
+
+  also-of : (why ≡ Waited register) ⊎ (why ≡ OutsideMap register) → refusal_also why ≡ register
+  also-of (inl z) = rw z
+  also-of (inr z) = rw z
 
 -- ---- an action
 
@@ -68,17 +96,17 @@ module _ (setup : Setup) (place made v : ℕ) (some : 0 < setup.tries) where
   on : (i : Item) (a : Action) → reachable setup.map i ≡ true → made < cost w i → ends a ≡ false
       → Progress setup place made i (settled setup place made a)
   on i (action.Read register) r h e =
-      record { same = refl; stays = refl; kept = begun refl (omega arith) (omega arith) r; moved = inr (h, refl); again = λ n register' f. quiet (action.Read register) refl n register' f }
+      record { same = refl; stays = refl; kept = begun refl (omega arith) (omega arith) r; moved = inr (h, refl); again = λ why f. quiet (action.Read register) refl why f }
   on i (action.Write register x) r h e =
-      record { same = refl; stays = refl; kept = begun refl (omega arith) (omega arith) r; moved = inr (h, refl); again = λ n register' f. quiet (action.Write register x) refl n register' f }
+      record { same = refl; stays = refl; kept = begun refl (omega arith) (omega arith) r; moved = inr (h, refl); again = λ why f. quiet (action.Write register x) refl why f }
   on i (action.Pause ms) r h e =
-      record { same = refl; stays = refl; kept = begun refl (omega arith) (omega arith) r; moved = inr (h, refl); again = λ n register' f. quiet (action.Pause ms) refl n register' f }
+      record { same = refl; stays = refl; kept = begun refl (omega arith) (omega arith) r; moved = inr (h, refl); again = λ why f. quiet (action.Pause ms) refl why f }
   on i action.Done r h e = absurd (differ e)
-  on i (action.Refused n register) r h e = absurd (differ e)
+  on i (action.Refused why) r h e = absurd (differ e)
 
   wait : (i : Item) (register : ℕ) (a b : Bool) → eqb (made % 2) 0 ≡ a → eqb made (2 * w - 1) ≡ b
       → register_of i ≡ register → waits i ≡ true → cost w i ≡ 2 * w - 1 → reachable setup.map i ≡ true → made ≤ cost w i
-      → Progress setup place made i (settled setup place made (pick a (action.Read register) (pick b (action.Refused WAITED register) (action.Pause WAIT-MS))))
+      → Progress setup place made i (settled setup place made (pick a (action.Read register) (pick b (action.Refused (Waited register)) (action.Pause WAIT-MS))))
   wait i register true b e f g q c r h = on i (action.Read register) r (omega (arith, c, h, some, eqb-true (made % 2) 0 e)) refl
   wait i register false true e f g q c r h =
       record {
@@ -86,7 +114,7 @@ module _ (setup : Setup) (place made v : ℕ) (some : 0 < setup.tries) where
         stays = refl;
         kept = failed refl (omega (arith, c, eqb-true made (2 * w - 1) f)) q r;
         moved = inl refl;
-        again = kept_again i WAITED register (state setup place made WAITED) refl g (inl refl);
+        again = kept_again i (Waited register) (state setup place made WAITED) refl (inl (rw g));
       }
   wait i register false false e f g q c r h =
       let h' : made ≤ 2 * w - 1 = omega (arith, c, h) in
@@ -106,7 +134,7 @@ module _ (setup : Setup) (place made v : ℕ) (some : 0 < setup.tries) where
   not_yet true b e = e
   not_yet false b e = refl
 
-  done-not : {X : Type 0} {n register : ℕ} → action.Done ≡ action.Refused n register → X
+  done-not : {X : Type 0} {why : Refusal} → action.Done ≡ action.Refused why → X
   done-not f = let z : ◌≡◌ {A = ℕ} 0 1 = cc in absurd (omega arith)
 
   -- a register in the map
@@ -114,7 +142,7 @@ module _ (setup : Setup) (place made v : ℕ) (some : 0 < setup.tries) where
       → Progress setup place made i (settled setup place made (intended w i made v))
   unfolding waiting looking changing
   reached End r h o =
-      record { same = refl; stays = refl; kept = done refl (omega arith) refl; moved = inl refl; again = λ n register f. done-not f }
+      record { same = refl; stays = refl; kept = done refl (omega arith) refl; moved = inl refl; again = λ why f. done-not f }
   reached (Write register x) r h o = on (Write register x) (action.Write register x) r (leb-false _ _ o) refl
   reached (Read register) r h o = on (Read register) (action.Read register) r (leb-false _ _ o) refl
   reached (Change register c s) r h o = change (Change register c s) register _ (eqb made 0) r (leb-false _ _ o)
@@ -136,7 +164,7 @@ module _ (setup : Setup) (place made v : ℕ) (some : 0 < setup.tries) where
       unmade (inr r) e = absurd (differ (sym r ∙ e))
 
       by_map : (b : Bool) → reachable setup.map i ≡ b
-          → Progress setup place made i (settled setup place made (pick b (intended w i made v) (action.Refused OUTSIDE (register_of i))))
+          → Progress setup place made i (settled setup place made (pick b (intended w i made v) (action.Refused (OutsideMap (register_of i)))))
       by_map true r = reached i r h o
       by_map false r =
           record {
@@ -144,7 +172,7 @@ module _ (setup : Setup) (place made v : ℕ) (some : 0 < setup.tries) where
             stays = refl;
             kept = outside refl (unmade was r) r;
             moved = inl refl;
-            again = kept_again i OUTSIDE (register_of i) (state setup place made OUTSIDE) refl refl (inr refl);
+            again = kept_again i (OutsideMap (register_of i)) (state setup place made OUTSIDE) refl (inr refl);
           }
 
 -- an item is not over before its first action
@@ -274,7 +302,7 @@ module _ (s : State) (sound : Sound s) where
             sound = sound;
             same = refl;
             moved = inl refl;
-            again = kept_again (here s) s.kept (register_of (here s)) s refl refl which;
+            again = kept_again (here s) (kept_refusal s.kept (register_of (here s))) s (number-kept _ (register_of (here s)) which) (which-kept _ _ which);
           })
 
       by-kept : Kept s.setup.map s.setup.tries (here s) s.place s.made s.kept → Kept-on s (step_of s v)
@@ -300,22 +328,26 @@ module _ (s : State) (sound : Sound s) where
   pub moves : (v : ℕ) → (ends (stepped s v).action ≡ true) ⊎ (left (stepped s v).state < left s)
   moves v = rw (sound-steps v) (keeps v).moved
 
-  -- a step of a sound state is refused with 10 or 11 only, never with 1
-  pub refused-with : (v n register : ℕ) → (stepped s v).action ≡ action.Refused n register → (n ≡ WAITED) ⊎ (n ≡ OUTSIDE)
-  refused-with v n register e = ((keeps v).again n register (ap (λ r. r.action) (sym (sound-steps v)) ∙ e)).2
+  -- a step of a sound state is refused with 10 or 11 only, never with 1, and with the register of the item that it is at then
+  refused-again-with : (v : ℕ) (why : Refusal) → (stepped s v).action ≡ action.Refused why
+      → ((stepped s v).state.kept ≡ refusal_number why)
+      × ((why ≡ Waited (register_of (here (stepped s v).state))) ⊎ (why ≡ OutsideMap (register_of (here (stepped s v).state))))
+  refused-again-with v = rw (sound-steps v) (keeps v).again
+
+  pub refused-with : (v : ℕ) (why : Refusal) → (stepped s v).action ≡ action.Refused why
+      → ((refusal_number why ≡ WAITED) ⊎ (refusal_number why ≡ OUTSIDE)) × (refusal_also why ≡ register_of (here (stepped s v).state))
+  refused-with v why e = (number-of why _ (refused-again-with v why e).1, also-of why _ (refused-again-with v why e).1)
 
 -- a start-up that refused makes no further action and repeats its refusal: its state stays
-pub refused-again : (s : State) → Sound s → (v n register : ℕ) → (stepped s v).action ≡ action.Refused n register
-    → (v' : ℕ) → stepped (stepped s v).state v' ≡ record { action = action.Refused n register; state = (stepped s v).state }
-refused-again s sound v n register e v' =
-    let e' : (step_of s v).action ≡ action.Refused n register = ap (λ r. r.action) (sym (sound-steps s sound v)) ∙ e in
-    let k = (keeps s sound v).again n register e' in
-    rw (sound-steps s sound v)
-    (sound-steps (step_of s v).state (keeps s sound v).sound v'
-    ∙ step_kept (step_of s v).state v' (λ z. by_number k.2 (sym k.0 ∙ z))
-    ∙ rw (k.0, k.1))
+pub refused-again : (s : State) → Sound s → (v : ℕ) (why : Refusal) → (stepped s v).action ≡ action.Refused why
+    → (v' : ℕ) → stepped (stepped s v).state v' ≡ record { action = action.Refused why; state = (stepped s v).state }
+refused-again s sound v why e v' =
+    let k = refused-again-with s sound v why e in
+    sound-steps (stepped s v).state (stays-sound s sound v) v'
+    ∙ step_kept (stepped s v).state v' (λ z. by_number (number-of why _ k.1) (sym k.0 ∙ z))
+    ∙ rw (k.0, again-kept why _ k.1)
   where
-    by_number : (n ≡ WAITED) ⊎ (n ≡ OUTSIDE) → n ≡ 0 → ⊥
+    by_number : (refusal_number why ≡ WAITED) ⊎ (refusal_number why ≡ OUTSIDE) → refusal_number why ≡ 0 → ⊥
     by_number (inl a) b = omega (arith, a, b)
     by_number (inr a) b = omega (arith, a, b)
 

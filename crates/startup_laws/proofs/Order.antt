@@ -10,6 +10,7 @@ use borrow.Author.Tests.{eqb-true, ltb-true, leb-true}
 use lib.Dec.{eqb, ltb}
 use lib.ListN.{length, get_or, take, length-append, get_or-eq_default}
 use lib.Seq.{get_or-append_seam}
+use Rattle.std.specs.Prelude.{Option, None, Some}
 use Rattle.laws.specs.Test.{pick, both, either, every}
 use Rattle.laws.proofs.Test.{both_left, both_right, every-at}
 use Rattle.card.specs.Registers.{registers, entry, address}
@@ -19,8 +20,6 @@ use Rattle.parts.specs.declared.Times.TheVariants.{Once}
 use Rattle.plan.specs.Sequence.{MSI, MSIX, by_kind, for_queue, made, joined, sequence}
 use Rattle.plan.proofs.Highest.{at-reset, at-reset-wait, at-reset-pause}
 use Rattle.plan.specs.declared.Setup.{Setup}
-use Rattle.plan.specs.declared.Interrupts.{Interrupts}
-use Rattle.plan.specs.declared.Interrupts.TheVariants.{Off, Kind}
 use Rattle.plan.specs.declared.Item.{Item}
 use Rattle.plan.specs.declared.Item.TheVariants.{End, Write, Read, Change, WaitClear, Link}
 use Rattle.startup.specs.declared.Action.TheVariants as action
@@ -137,6 +136,6 @@ few-signalled s sound kind = by-kind s.setup.interrupts sound.kind
     by-test true n h = h
     by-test false n h = omega arith
 
-    by-kind : (interrupts : Interrupts) → kind_ok interrupts s.setup.receives ≡ true → by_kind kind interrupts s.setup.receives ≤ SIGNALLED
-    by-kind Off e = omega arith
-    by-kind (Kind k) e = by-test (eqb k kind) s.setup.receives (leb-true _ _ (both_right (either (eqb k MSI) (eqb k MSIX)) _ e))
+    by-kind : (interrupts : Option ℕ) → kind_ok interrupts s.setup.receives ≡ true → by_kind kind interrupts s.setup.receives ≤ SIGNALLED
+    by-kind None e = omega arith
+    by-kind (Some k) e = by-test (eqb k kind) s.setup.receives (leb-true _ _ (both_right (either (eqb k MSI) (eqb k MSIX)) _ e))

@@ -12,6 +12,7 @@ use Rattle.laws.specs.Test.{pick}
 use Rattle.plan.specs.declared.Setup.{Setup}
 use Rattle.plan.specs.declared.Item.{Item}
 use Rattle.plan.specs.declared.Item.TheVariants.{End, Write, Read, Change, WaitSet, WaitClear, Pause, Link}
+use Rattle.refusals.specs.declared.Refusal.TheVariants.{Waited}
 use Rattle.startup.specs.declared.Action.{Action}
 use Rattle.startup.specs.declared.Action.TheVariants as action
 use Rattle.startup.specs.declared.State.{State}
@@ -151,7 +152,7 @@ unfolding waiting
 waiting-odd w register t h =
     simp (ne_eqb ((2 * t + 1) % 2) 0 (λ z. omega arith), ne_eqb (2 * t + 1) (2 * w - 1) (λ z. omega arith))
 
-waiting-last : (w register t : ℕ) → t + 1 ≡ w → waiting w register (2 * t + 1) ≡ action.Refused WAITED register
+waiting-last : (w register t : ℕ) → t + 1 ≡ w → waiting w register (2 * t + 1) ≡ action.Refused (Waited register)
 unfolding waiting
 waiting-last w register t h =
     simp (ne_eqb ((2 * t + 1) % 2) 0 (λ z. omega arith), eq-eqb (2 * t + 1) (2 * w - 1) (omega (arith, h)))
@@ -187,9 +188,9 @@ module _ (setup : Setup) (place : ℕ) (sound : Sound (state setup place 1 0)) (
   -- after read number W of what is not ready: 10, with the register, and no pause
   pub wait-refuses : (t v : ℕ) → t + 1 ≡ tries → ready item v ≡ false
       → stepped (state setup place (2 * t + 1) 0) v
-      ≡ record { action = action.Refused WAITED (register_of item); state = state setup place (2 * t + 1) WAITED }
+      ≡ record { action = action.Refused (Waited (register_of item)); state = state setup place (2 * t + 1) WAITED }
   wait-refuses t v h f =
-      stays setup place sound (2 * t + 1) v (action.Refused WAITED (register_of item)) (omega arith) (omega (arith, most, h))
+      stays setup place sound (2 * t + 1) v (action.Refused (Waited (register_of item))) (omega arith) (omega (arith, most, h))
       (wait-over tries (2 * t + 1) v item is ∙ seen-odd t (ready item v) ∙ f)
       (wait-intended tries (2 * t + 1) v item is ∙ waiting-last tries (register_of item) t h)
 
@@ -202,9 +203,9 @@ module _ (setup : Setup) (place : ℕ) (sound : Sound (state setup place 1 0)) (
   -- a wait that never passes, its first read made: W - 1 times a pause and a read, then 10
   pub wait-out : (v : ℕ → ℕ) → ((k : ℕ) → ready item (v k) ≡ false)
       → actions v 0 (2 * (tries - 1) + 1) (state setup place 1 0)
-      ≡ turns (tries - 1) (register_of item) ++ (action.Refused WAITED (register_of item) ∷ [])
+      ≡ turns (tries - 1) (register_of item) ++ (action.Refused (Waited (register_of item)) ∷ [])
   wait-out v f =
-      turns-left setup place (register_of item) tries v (action.Refused WAITED (register_of item))
+      turns-left setup place (register_of item) tries v (action.Refused (Waited (register_of item)))
       (λ t k h. wait-pauses t (v k) h (f k))
       (λ t k h. wait-reads t (v k) h)
       (λ t k h. ap (λ r. r.action) (wait-refuses t (v k) h (f k)))

@@ -25,7 +25,7 @@ ends (Read register) = false
 ends (Write register x) = false
 ends (Pause ms) = false
 ends Done = true
-ends (Refused n register) = true
+ends (Refused why) = true
 
 -- one of the next n steps, fed v k, v (k + 1) and so on, ends the run
 pub data Ends (v : ℕ → ℕ) : ℕ → ℕ → State → Type 0 where

@@ -1,69 +1,49 @@
 -- The window's laws: soundness both ways, a new window is sound and every call keeps it so, the rates held are at most R - 1 and the latest
 -- ones, oldest first, the clock is looked at on each 4,096th call, what a decision means, and one outcome for each call.
-use Prim.Native.Nat.{ℕ, zero, suc, ◌+◌, ◌-◌, ◌/◌, ◌%◌, ◌≤◌, ◌<◌}
-use mathlib.Core.Path.{◌≡◌, refl, sym, ap, ◌∙◌}
-use mathlib.Core.Bool.{Bool, true, false, not}
-use mathlib.Core.List.{[], ◌∷◌, ◌++◌}
-use mathlib.Core.Logic.{◌↔◌, ◌⊎◌, inl, inr}
-use native.Mathlib.Decide.{ℕ_discrete}
-use native.Mathlib.Numerals.{add-one}
-use native.Mathlib.Omega.{arith}
-use borrow.Author.Tests.{ltb-true, leb-true, eqb-true, not-false, lt-ltb, le-leb, eq-eqb, ne_eqb}
-use lib.ListN.{length, set, take, drop, length-set}
-use lib.Seq.{take-suc-set}
-use lib.Dec.{eqb, ltb, leb}
+use Rattle.std.proofs.Common.{ℕ, zero, suc, ◌+◌, ◌-◌, ◌/◌, ◌%◌, ◌≤◌, ◌<◌, ◌≡◌, ◌↔◌, ◌⊎◌, refl, sym, ◌∙◌, Bool, true, false, [], ◌∷◌, ◌++◌, length, drop, eqb, Result, Ok, Err, arith}
+use Rattle.std.proofs.lemmas.Bool.Decides.{nat_tests}
+use Rattle.std.proofs.lemmas.Grind.{common_steps}
+use Rattle.std.proofs.lemmas.List.Sums.{sum_by-drop_more}
+use borrow.Author.Tests.{eqb-true, eq-eqb}
 use Rattle.limits.specs.Limits.{FEWEST-RATES, MOST-RATES, CLOCK-CALLS}
-use Rattle.laws.specs.Test.{pick, both, either}
-use Rattle.laws.proofs.Test.{false-not-true, both_left, both_right, either_true}
+use Rattle.laws.specs.Test.{pick}
+use Rattle.refusals.specs.declared.Refusal.{Refusal}
+use Rattle.refusals.specs.declared.Refusal.TheVariants.{Unsound, WrongSize, NoQueue, BadHandle, TooLarge, NoneFree, NoHeadroom, NotNow, OutOfRange, Waited, OutsideMap, NoInterrupt}
+use Rattle.refusals.specs.Numbers.{refusal_number}
 use Rattle.window.specs.declared.Window.{Window}
-use Rattle.window.specs.declared.Opened.{Opened}
-use Rattle.window.specs.declared.Ticked.{Ticked}
-use Rattle.window.specs.declared.Rated.{Rated}
-use Rattle.window.specs.Window.{held, total, in_range, sound, Sound, opened, new_call, tick_call, is_full, with_rate, decided_on, rated_call}
-use Rattle.window.proofs.Rates.{total-none, total-last, total-oldest, drop-later, slid-held, slid-length}
-
--- what holds of both holds of what is picked
-pick-has : {A : Type 0} (P : A → Type 0) (b : Bool) {x y : A} → P x → P y → P (pick b x y)
-pick-has P true p q = p
-pick-has P false p q = q
+use Rattle.window.specs.declared.Ticked.{Ticked as TickedOk}
+use Rattle.window.specs.declared.Rated.{Rated as RatedOk}
+use Rattle.window.specs.Window.{Opened, Ticked, Rated, UNSOUND, OUT-OF-RANGE, held, total, in_range, sound, Sound, opened, no_window, opened_as, ticked_as, rated_as, new_call, tick_call, is_full, slid, with_rate, rated_call}
+use Rattle.window.proofs.Rates.{total_is_sum}
 
 -- ---- soundness
 
 pub range-means : (range : ℕ) → in_range range ≡ true → (FEWEST-RATES ≤ range) × (range ≤ MOST-RATES)
 unfolding in_range
-range-means range e =
-    (leb-true FEWEST-RATES range (both_left (leb FEWEST-RATES range) _ e), leb-true range MOST-RATES (both_right (leb FEWEST-RATES range) _ e))
+range-means range e = (grind (arith, nat_tests), grind (arith, nat_tests))
 
 pub sound-means : (w : Window) → sound w ≡ true → Sound w
-unfolding sound
+unfolding sound in_range
 sound-means w e =
     record {
-      some = ranged.0;
-      few = ranged.1;
-      room = ltb-true w.count w.range (both_left (ltb w.count w.range) _ rest);
-      early = ltb-true w.calls CLOCK-CALLS (both_left (ltb w.calls CLOCK-CALLS) _ last);
-      adds-up = eqb-true w.sum (total (held w)) (both_right (ltb w.calls CLOCK-CALLS) _ last);
+      some = grind (arith, nat_tests);
+      few = grind (arith, nat_tests);
+      room = grind (arith, nat_tests);
+      early = grind (arith, nat_tests);
+      adds-up = grind (arith, nat_tests);
     }
-  where
-    ranged : (FEWEST-RATES ≤ w.range) × (w.range ≤ MOST-RATES)
-    ranged = range-means w.range (both_left (in_range w.range) _ e)
 
-    rest : both (ltb w.count w.range) (both (ltb w.calls CLOCK-CALLS) (eqb w.sum (total (held w)))) ≡ true
-    rest = both_right (in_range w.range) _ e
-
-    last : both (ltb w.calls CLOCK-CALLS) (eqb w.sum (total (held w))) ≡ true
-    last = both_right (ltb w.count w.range) _ rest
+-- the counter of a sound window
+pub sound_early : (w : Window) → sound w ≡ true → w.calls < CLOCK-CALLS
+sound_early w e = (sound-means w e).early
 
 pub means-sound : (w : Window) → Sound w → sound w ≡ true
 unfolding sound in_range
-means-sound w s =
-    simp (le-leb _ _ s.some, le-leb _ _ s.few, lt-ltb _ _ s.room, lt-ltb _ _ s.early, eq-eqb _ _ s.adds-up)
+means-sound w s = grind (arith, nat_tests)
 
 pub new-sound : (range threshold interval : ℕ) → in_range range ≡ true → sound (new_call range threshold interval).window ≡ true
-unfolding new_call opened
-new-sound range threshold interval e =
-    let (some, few) = range-means range e in
-    rw e (means-sound _ (record { some = some; few = few; room = omega arith; early = omega arith; adds-up = total-none }))
+unfolding new_call opened sound total
+new-sound range threshold interval e = grind (arith, nat_tests, range-means)
 
 pub refused-unsound : (range threshold interval : ℕ) → in_range range ≡ false → sound (new_call range threshold interval).window ≡ false
 unfolding new_call opened sound in_range
@@ -73,10 +53,8 @@ refused-unsound range threshold interval e = rw e
 
 module _ (w : Window) (e : sound w ≡ true) where
   counted-sound : sound (tick_call w).window ≡ true
-  unfolding tick_call
-  counted-sound =
-      let s = sound-means w e in
-      rw e (means-sound _ (record { some = s.some; few = s.few; room = s.room; early = omega arith; adds-up = s.adds-up }))
+  unfolding tick_call sound in_range
+  counted-sound = grind (arith, nat_tests)
 
   counted-on : (tick_call w).window.calls ≡ (w.calls + 1) % CLOCK-CALLS
   unfolding tick_call
@@ -91,53 +69,10 @@ module _ (w : Window) (e : sound w ≡ true) where
 -- with one more, at least one is held
 pub rate-some : (w : Window) (rate : ℕ) → Sound w → 0 < (with_rate w rate).count
 unfolding with_rate
-rate-some w rate s = by-case (is_full w.count w.range) refl
-  where
-    by-case : (b : Bool) → is_full w.count w.range ≡ b → 0 < pick b w.count (w.count + 1)
-    by-case true e = omega (arith, eqb-true (w.count + 1) w.range e)
-    by-case false e = omega arith
+rate-some w rate s = grind (arith, nat_tests)
 
--- what one more rate leaves: the rates held, a sound window, and the array whole
-abbrev Taken : Window → ℕ → Type 0
-Taken w rate =
-    (held (with_rate w rate) ≡ pick (is_full w.count w.range) (drop 1 (held w ++ (rate ∷ []))) (held w ++ (rate ∷ [])))
-    × Sound (with_rate w rate)
-    × (length (with_rate w rate).rates ≡ MOST-RATES)
-
-taken : (w : Window) → length w.rates ≡ MOST-RATES → (rate : ℕ) → sound w ≡ true → Taken w rate
-unfolding with_rate
-taken w full rate e = by-case (ℕ_discrete (w.count + 1) w.range) (sound-means w e)
-  where
-    by-case : Dec (w.count + 1 ≡ w.range) → Sound w → Taken w rate
-    by-case (yes same) s =
-        let some : 0 < w.count = omega arith in
-        let few : w.count ≤ length w.rates = omega arith in
-        let now = slid-held w.rates w.count some few rate in
-        rw (eq-eqb (w.count + 1) w.range same) (
-          now ∙ sym (drop-later w.rates w.count some few rate),
-          record {
-            some = s.some;
-            few = s.few;
-            room = s.room;
-            early = s.early;
-            adds-up = rw now (omega (arith, total-last (drop 1 (held w)) rate, total-oldest w.rates w.count some few));
-          },
-          slid-length w.rates w.count some few rate ∙ full,
-        )
-    by-case (no other) s =
-        let now : take (w.count + 1) (set w.rates w.count rate) ≡ held w ++ (rate ∷ [])
-        = rw (add-one, take-suc-set w.rates w.count rate (omega arith)) in
-        rw (ne_eqb (w.count + 1) w.range other) (
-          now,
-          record {
-            some = s.some;
-            few = s.few;
-            room = omega arith;
-            early = s.early;
-            adds-up = rw now (omega (arith, total-last (held w) rate));
-          },
-          length-set w.rates w.count rate ∙ full,
-        )
+-- what a sound window says of a rate
+pub ruleset soundness = (sound-means, rate-some)
 
 module _ (w : Window) (full : length w.rates ≡ MOST-RATES) where
   pub tick-sound : sound w ≡ true → sound (tick_call w).window ≡ true
@@ -145,18 +80,29 @@ module _ (w : Window) (full : length w.rates ≡ MOST-RATES) where
 
   -- the rates held after one more: the rates held before and the new one, without the oldest when R would be held
   pub rate-held : (rate : ℕ) → sound w ≡ true → held (with_rate w rate) ≡ pick (is_full w.count w.range) (drop 1 (held w ++ (rate ∷ []))) (held w ++ (rate ∷ []))
-  rate-held rate e = (taken w full rate e).0
+  unfolding with_rate slid
+  rate-held rate e = let s = sound-means w e in grind (arith, common_steps, nat_tests)
+
+  rate-sound : (rate : ℕ) → sound w ≡ true → Sound (with_rate w rate)
+  unfolding with_rate slid
+  rate-sound rate e =
+      let s = sound-means w e in
+      record {
+        some = s.some;
+        few = s.few;
+        room = grind (arith, nat_tests);
+        early = s.early;
+        adds-up = grind (arith, common_steps, nat_tests, total_is_sum, sum_by-drop_more);
+      }
 
   pub rated-sound : (elapsed rate received asked : ℕ) → sound w ≡ true → sound (rated_call w elapsed rate received asked).window ≡ true
   unfolding rated_call sound
-  rated-sound elapsed rate received asked e =
-      rw e (pick-has (λ (r : Rated). sound r.window ≡ true) (ltb w.interval elapsed) (means-sound _ (taken w full rate e).1) e)
+  rated-sound elapsed rate received asked e = let s = means-sound _ (rate-sound rate e) in grind (arith, nat_tests)
 
   -- the array stays whole
   pub rated-full : (elapsed rate received asked : ℕ) → sound w ≡ true → length (rated_call w elapsed rate received asked).window.rates ≡ MOST-RATES
-  unfolding rated_call
-  rated-full elapsed rate received asked e =
-      rw e (pick-has (λ (r : Rated). length r.window.rates ≡ MOST-RATES) (ltb w.interval elapsed) (taken w full rate e).2 full)
+  unfolding rated_call with_rate slid
+  rated-full elapsed rate received asked e = let s = sound-means w e in grind (arith, common_steps, nat_tests)
 
 -- ---- the clock is looked at on each 4,096th call
 
@@ -184,38 +130,62 @@ module _ (w : Window) (e : sound w ≡ true) (none : w.calls ≡ 0) where
 
 -- ---- a decision
 
--- what decides is picked only by a test that holds
-decides : (b : Bool) {r : Rated} (s : Rated) → s.decided ≡ false → (pick b r s).decided ≡ true → pick b r s ≡ r
-decides true s not-s e = refl
-decides false s not-s e = absurd (false-not-true (sym not-s ∙ e))
-
-off-exactly : (threshold mean received asked : ℕ)
-    → (not (either (ltb threshold mean) (eqb received asked)) ≡ false) ↔ ((threshold < mean) ⊎ (received ≡ asked))
-off-exactly threshold mean received asked = (above-or-all (ltb threshold mean) refl, off)
-  where
-    above-or-all : (b : Bool) → ltb threshold mean ≡ b → not (either b (eqb received asked)) ≡ false
-        → (threshold < mean) ⊎ (received ≡ asked)
-    above-or-all true above e = inl (ltb-true threshold mean above)
-    above-or-all false above e = inr (eqb-true received asked (not-false _ e))
-
-    off : (threshold < mean) ⊎ (received ≡ asked) → not (either (ltb threshold mean) (eqb received asked)) ≡ false
-    off (inl above) = rw (lt-ltb threshold mean above)
-    off (inr all) = rw (eq-eqb received asked all, either_true)
-
 module _ (w : Window) (elapsed rate received asked : ℕ) where
-  decision : (rated_call w elapsed rate received asked).decided ≡ true
-      → (rated_call w elapsed rate received asked).window ≡ decided_on (with_rate w rate) received asked
-  unfolding rated_call
-  decision e =
-      let good = decides (sound w) _ refl e in
-      ap (λ (r : Rated). r.window) (good ∙ decides (ltb w.interval elapsed) _ refl (rw good at e))
-
   -- after a call that decides, interrupts are off exactly if the mean is above the threshold or the receive got all that it asked for
   pub off-means : (after : Window) → rated_call w elapsed rate received asked ≡ record { number = 0; decided = true; window = after }
       → (after.on ≡ false) ↔ ((after.threshold < after.sum / after.count) ⊎ (received ≡ asked))
-  off-means after e =
-      let same : after ≡ decided_on (with_rate w rate) received asked = rw e at (decision (ap (λ (r : Rated). r.decided) e)) in
-      rw same (off-exactly (with_rate w rate).threshold ((with_rate w rate).sum / (with_rate w rate).count) received asked)
+  unfolding rated_call with_rate
+  off-means after e = (λ h. grind (arith, nat_tests), λ h. grind (arith, nat_tests))
+
+-- the window that no set-up has made is not sound
+pub unset-unsound : sound no_window ≡ false
+unfolding opened sound in_range
+unset-unsound = refl
+
+-- ---- the results of the calls: each answer is that of one result
+
+-- no refusal has the number 0, and 1 and 9 are those of one refusal each
+numbered : (e : Refusal) → (0 < refusal_number e) × (refusal_number e ≡ UNSOUND → e ≡ Unsound) × (refusal_number e ≡ OUT-OF-RANGE → e ≡ OutOfRange)
+numbered Unsound = (omega arith, λ h. refl, λ h. absurd (omega arith))
+numbered WrongSize = (omega arith, λ h. absurd (omega arith), λ h. absurd (omega arith))
+numbered NoQueue = (omega arith, λ h. absurd (omega arith), λ h. absurd (omega arith))
+numbered (BadHandle _) = (omega arith, λ h. absurd (omega arith), λ h. absurd (omega arith))
+numbered TooLarge = (omega arith, λ h. absurd (omega arith), λ h. absurd (omega arith))
+numbered NoneFree = (omega arith, λ h. absurd (omega arith), λ h. absurd (omega arith))
+numbered NoHeadroom = (omega arith, λ h. absurd (omega arith), λ h. absurd (omega arith))
+numbered NotNow = (omega arith, λ h. absurd (omega arith), λ h. absurd (omega arith))
+numbered OutOfRange = (omega arith, λ h. absurd (omega arith), λ h. refl)
+numbered (Waited _) = (omega arith, λ h. absurd (omega arith), λ h. absurd (omega arith))
+numbered (OutsideMap _) = (omega arith, λ h. absurd (omega arith), λ h. absurd (omega arith))
+numbered NoInterrupt = (omega arith, λ h. absurd (omega arith), λ h. absurd (omega arith))
+
+-- the window for an R in range, else the refusal OutOfRange
+pub new-result : (range threshold interval : ℕ) (r : Result Window Refusal) → opened_as r ≡ new_call range threshold interval
+    → r ≡ pick (in_range range) (Ok (opened range threshold interval)) (Err OutOfRange)
+unfolding new_call
+new-result range threshold interval (Ok w) e = grind (arith, nat_tests)
+new-result range threshold interval (Err f) e = let n = numbered f in grind (arith, nat_tests)
+
+module _ (w : Window) where
+  -- the call counted for a sound window, else the refusal Unsound
+  pub tick-result : (r : Result TickedOk Refusal) → ticked_as w r ≡ tick_call w
+      → r ≡ pick (sound w) (Ok (record { looks = (tick_call w).looks; window = (tick_call w).window })) (Err Unsound)
+  unfolding tick_call
+  tick-result (Ok t) e = grind (arith, nat_tests)
+  tick-result (Err f) e = let n = numbered f in grind (arith, nat_tests)
+
+  module _ (elapsed rate received asked : ℕ) where
+    -- the rate taken or left by a sound window, else the refusal Unsound
+    pub rated-result : (r : Result RatedOk Refusal) → rated_as w r ≡ rated_call w elapsed rate received asked
+        → r ≡ pick (sound w)
+        (Ok (record {
+          decided = (rated_call w elapsed rate received asked).decided;
+          window = (rated_call w elapsed rate received asked).window;
+        }))
+        (Err Unsound)
+    unfolding rated_call
+    rated-result (Ok t) e = grind (arith, nat_tests)
+    rated-result (Err f) e = let n = numbered f in grind (arith, nat_tests)
 
 -- ---- one outcome
 

@@ -1,11 +1,31 @@
 -- Document 01, "Registers", its last paragraph: the interrupt window.
-use Rattle.std.specs.Prelude.{ℕ, ◌+◌, ◌-◌, ◌/◌, ◌%◌, ◌≤◌, ◌<◌, ◌≡◌, Bool, true, false, not, List, [], ◌∷◌, ◌++◌, get_or, set, take, drop, replicate, eqb, ltb, leb}
+use Rattle.std.specs.Prelude.{ℕ, ◌+◌, ◌-◌, ◌/◌, ◌%◌, ◌≤◌, ◌<◌, ◌≡◌, Bool, true, false, not, List, [], ◌∷◌, ◌++◌, get_or, set, take, drop, replicate, eqb, ltb, leb, Result, Ok, Err}
 use Rattle.limits.specs.Limits.{FEWEST-RATES, MOST-RATES, CLOCK-CALLS}
 use Rattle.laws.specs.Test.{pick, both, either}
 use Rattle.window.specs.declared.Window.{Window}
-use Rattle.window.specs.declared.Opened.{Opened}
-use Rattle.window.specs.declared.Ticked.{Ticked}
-use Rattle.window.specs.declared.Rated.{Rated}
+use Rattle.refusals.specs.declared.Refusal.{Refusal}
+use Rattle.refusals.specs.Numbers.{refusal_number}
+use Rattle.window.specs.declared.Ticked.{Ticked as TickedOk}
+use Rattle.window.specs.declared.Rated.{Rated as RatedOk}
+
+-- ---- what a call answers, with the table's number
+
+-- a set-up: 0 and the window, or 9 and a window that is not sound
+pub record Opened : Type 0 where
+  pub number : ℕ
+  pub window : Window
+
+-- a counted call: whether the host looks at the clock now
+pub record Ticked : Type 0 where
+  pub number : ℕ
+  pub looks : Bool
+  pub window : Window
+
+-- a rate: whether it was taken
+pub record Rated : Type 0 where
+  pub number : ℕ
+  pub decided : Bool
+  pub window : Window
 
 -- the table's numbers
 abbrev pub UNSOUND : ℕ
@@ -66,6 +86,11 @@ opened range threshold interval =
 abbrev pub no_window : Window
 no_window = opened 0 0 0
 
+-- a set-up's result as an answer
+abbrev pub opened_as : Result Window Refusal → Opened
+opened_as (Ok w) = record { number = 0; window = w }
+opened_as (Err e) = record { number = refusal_number e; window = no_window }
+
 unfoldable pub new_call : ℕ → ℕ → ℕ → Opened
 new_call range threshold interval =
     pick (in_range range)
@@ -86,6 +111,11 @@ with_calls w calls =
       count = w.count;
       rates = w.rates;
     }
+
+-- a tick's result as an answer: a refused one leaves the window that it was given
+abbrev pub ticked_as : Window → Result TickedOk Refusal → Ticked
+ticked_as w (Ok t) = record { number = 0; looks = t.looks; window = t.window }
+ticked_as w (Err e) = record { number = refusal_number e; looks = false; window = w }
 
 -- each 4,096th looks at the clock, and the counter begins anew
 unfoldable pub tick_call : Window → Ticked
@@ -137,6 +167,11 @@ is_off w received asked = either (ltb w.threshold (w.sum / w.count)) (eqb receiv
 
 abbrev pub decided_on : Window → ℕ → ℕ → Window
 decided_on w received asked = with_on w (not (is_off w received asked))
+
+-- a rate's result as an answer: a refused one leaves the window that it was given
+abbrev pub rated_as : Window → Result RatedOk Refusal → Rated
+rated_as w (Ok r) = record { number = 0; decided = r.decided; window = r.window }
+rated_as w (Err e) = record { number = refusal_number e; decided = false; window = w }
 
 -- a decision is made only if more time has passed than the interval; else nothing changes
 unfoldable pub rated_call : Window → ℕ → ℕ → ℕ → ℕ → Rated

@@ -2,3 +2,4 @@
 pub mod Laws
 pub mod Slots
 pub mod Datasheet
+mod Bytes

@@ -1,11 +1,10 @@
 -- `calls::fresh` meets its contract: refused where a number is out of its range, and else opened. Assumes nothing.
-use mathlib.Core.Path.{◌≡◌, refl, sym, ap, ◌∙◌}
-use Rattle.rules.specs.Account.{opened}
+use mathlib.Core.Path.{◌≡◌, sym, ap, ◌∙◌}
 use Rattle.rules.specs.Sound.{in_range}
 use Rattle.rules.specs.Refusals.{size_given, fresh_verdict}
 use Rattle.rules.specs.Packets.{fresh_call}
 use Rattle.calls.proofs.fresh.Goals as goal
-use Rattle.calls.proofs.fresh.Goals.{After-in_range, After-open-2}
+use Rattle.calls.proofs.fresh.Goals.{After-in_range}
 
 -- what the test of the numbers said
 in-range : (c : After-in_range)
@@ -15,15 +14,10 @@ in-range c =
     (c.in_range.ensures
     ∙ ap (λ k. in_range c.args.entries k c.args.receives c.args.sends) c.size_given-given.ensures)
 
--- the account is opened with the size that is given
-opened-so : (c : After-open-2) → let a = c.args in
-    c.open-2.result ≡ opened a.pool a.entries c.size_given-given.result a.receives a.sends
-opened-so c = c.open-2.ensures
-
 pub returns-then-not-in_range : goal.returns-then-not-in_range
 unfolding fresh_verdict fresh_call
-returns-then-not-in_range c = rw (c.«open».ensures, in-range (goal.at.returns-then-not-in_range c).After-in_range ∙ c.if-not-in_range.true) refl
+returns-then-not-in_range c = rw (in-range (goal.at.returns-then-not-in_range c).After-in_range ∙ c.if-not-in_range.true)
 
 pub returns : goal.returns
 unfolding fresh_verdict fresh_call
-returns c = rw (opened-so (goal.at.returns c).After-open-2, in-range (goal.at.returns c).After-in_range ∙ c.if-not-in_range.false, c.size_given-given.ensures)
+returns c = rw (c.«open».ensures, in-range (goal.at.returns c).After-in_range ∙ c.if-not-in_range.false, c.size_given-given.ensures)

@@ -1,16 +1,8 @@
--- `parts::part_at` meets its contract: stretch by stretch. Assumes nothing.
-use mathlib.Core.Path.{sym, ◌∙◌}
-use Rattle.parts.proofs.Rows.{in-reset, in-receive, in-send, in_start}
+-- `parts::part_at` meets its contract: the row of a part is that of what it is made of. Assumes nothing.
+use Rattle.parts.specs.Parts.{parts, row_for, no_made, no_part}
+use Rattle.parts.proofs.Lists.{at_map}
 use Rattle.parts.proofs.part_at.Goals as goal
 
-pub returns-then-i-lt-RECEIVE_FROM : goal.returns-then-i-lt-RECEIVE_FROM
-returns-then-i-lt-RECEIVE_FROM c = c.reset_row.ensures ∙ sym (in-reset _ c.if-i-lt-RECEIVE_FROM.true)
-
-pub returns-then-i-lt-SEND_FROM : goal.returns-then-i-lt-SEND_FROM
-returns-then-i-lt-SEND_FROM c = c.receive_row.ensures ∙ sym (in-receive _ c.if-i-lt-RECEIVE_FROM.false c.if-i-lt-SEND_FROM.true)
-
-pub returns-then-i-lt-START_FROM : goal.returns-then-i-lt-START_FROM
-returns-then-i-lt-START_FROM c = c.send_row.ensures ∙ sym (in-send _ c.if-i-lt-SEND_FROM.false c.if-i-lt-START_FROM.true)
-
 pub returns : goal.returns
-returns c = c.start_row.ensures ∙ sym (in_start _ c.if-i-lt-START_FROM.false)
+unfolding parts
+returns c = rw (at_map row_for parts c.args.i no_made no_part c.requires, c.row-times.ensures.0, c.row-times.ensures.1)

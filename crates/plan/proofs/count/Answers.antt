@@ -6,11 +6,11 @@ use Rattle.plan.proofs.count.Goals.{After-how_often}
 
 turn : (c : After-how_often)
     → Turn c.args.setup.receives c.args.setup.sends c.args.setup.interrupts
-    c.loop-i.i c.how_often.result c.part_at-part.result
+    c.loop-i.i c.how_often.result c.part_at-times.result
 turn c =
     record {
       within = c.loop-i-test.true;
-      is = c.part_at-part.ensures;
+      is = c.part_at-times.ensures;
       receives-few = c.requires.receives;
       sends-few = c.requires.sends;
       many = c.how_often.ensures;

@@ -1,17 +1,17 @@
 -- `plan::item_at` meets its contract. The invariant is `Here`: the place is `left` into the parts from i on. Assumes nothing.
 use mathlib.Core.Path.{sym, ◌∙◌}
 use native.Mathlib.Omega.{arith}
-use Rattle.plan.proofs.Laws.{here-start, here_end, Turn, named, few, in-part, a-queue, turn-found, turn-next}
+use Rattle.plan.proofs.Laws.{here-start, here_end, Turn, few, in-part, a-queue, turn-found, turn-next}
 use Rattle.plan.proofs.item_at.Goals as goal
 use Rattle.plan.proofs.item_at.Goals.{After-how_often}
 
 turn : (c : After-how_often)
     → Turn c.args.setup.receives c.args.setup.sends c.args.setup.interrupts
-    c.loop-i.i c.how_often.result c.part_at-part.result
+    c.loop-i.i c.how_often.result c.part_at-times.result
 turn c =
     record {
       within = c.loop-i-test.true;
-      is = c.part_at-part.ensures;
+      is = c.part_at-times.ensures;
       receives-few = c.requires.receives;
       sends-few = c.requires.sends;
       many = c.how_often.ensures;
@@ -30,7 +30,6 @@ pub fill-requires : goal.fill-requires
 fill-requires c = (
   c.requires,
   a-queue (turn (goal.at.fill-requires c).After-how_often) c.if-left-n.true,
-  rw c.template_at.ensures (named _ (turn (goal.at.fill-requires c).After-how_often).within _ (in-part (turn (goal.at.fill-requires c).After-how_often) c.if-left-n.true)),
 )
 
 pub returns-then-left-n : goal.returns-then-left-n

@@ -1,11 +1,6 @@
 -- `plan::item_at` meets its contract. The invariant is `Here`: the place is `left` into the parts from i on. Assumes nothing.
-use Prim.Native.Nat.{◌-◌}
-use Rattle.parts.specs.Parts.{PARTS}
 use Rattle.plan.proofs.Laws.{Here}
 use Rattle.plan.proofs.item_at.Given as goal
 
 abbrev pub invariant-loop-i : goal.invariant-loop-i
 invariant-loop-i l = Here l.setup l.place l.left l.i
-
-abbrev pub decreases-loop-i : goal.decreases-loop-i
-decreases-loop-i l = PARTS - l.i

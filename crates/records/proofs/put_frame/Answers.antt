@@ -14,5 +14,5 @@ pub returns : goal.returns
 unfolding frame_rule put_le
 returns c =
     let next : c.args.slot * 16 + 12 + 1 ≡ c.args.slot * 16 + 13 = omega arith in
-    let high : c.args.len / 256 % 256 ≡ c.args.len / 256 = omega arith in
+    let high : c.args.length / 256 % 256 ≡ c.args.length / 256 = omega arith in
     rw (c.write32.ensures, next, high) refl

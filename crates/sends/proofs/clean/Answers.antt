@@ -4,20 +4,14 @@ use mathlib.Core.Path.{sym, ap, ◌∙◌}
 use native.Mathlib.Omega.{arith}
 use Rattle.rules.specs.Account.{waiting}
 use Rattle.rules.specs.Send.{Cleaning}
-use Rattle.sends.proofs.Laws.{along-start, along-few, along-unsent, along-givable, along-less, along-batch}
+use Rattle.sends.proofs.Laws.{along-few, along-unsent, along-less, along-batch}
 use Rattle.sends.proofs.clean.Goals as goal
 use Rattle.sends.proofs.clean.Goals.{Else-pending-batch}
-
-pub loop-last-init : goal.loop-last-init
-loop-last-init c = along-start _ _ _ _ _ _ c.requires
 
 -- a whole batch is pending
 waits : (c : Else-pending-batch)
     → c.args.batch ≤ waiting c.args.tx c.loop-last.first
 waits c = omega (arith, c.if-pending-batch.false, c.pending.ensures)
-
-pub give_back-first-requires : goal.give_back-first-requires
-give_back-first-requires c = along-givable c.loop-last.invariant (waits (goal.at.give_back-first-requires c).Else-pending-batch)
 
 pub loop-last-smaller : goal.loop-last-smaller
 loop-last-smaller c = rw (ap (λ (w : Cleaning). w.clean) c.give_back-first.ensures) (along-less c.loop-last.invariant (waits (goal.at.loop-last-smaller c).Else-pending-batch))

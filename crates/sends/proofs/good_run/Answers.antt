@@ -10,8 +10,8 @@ unmark-requires c =
     let run = c.mark_good-run.ensures.run in
     (run.not-past, λ k h. omega (arith, run-known run k h, c.requires.0))
 
-pub returns : goal.returns
-returns c =
+pub returns-clause-leaves : goal.returns-clause-leaves
+returns-clause-leaves c =
     let run = c.mark_good-run.ensures.run in
     let marks = c.mark_good-run.ensures.marks in
-    record { run = run; leaves = c.unmark.ensures ∙ rw marks (run-unmarked run HAND-SEND (λ e. omega arith) (omega arith)) }
+    c.unmark.ensures ∙ rw marks (run-unmarked run HAND-SEND (λ e. omega arith) (omega arith))

@@ -1,23 +1,17 @@
--- `startup::passed` meets its contract: the registers so far are in the map; past the highest they all are. Assumes nothing.
-use mathlib.Core.Path.{◌≡◌, sym, ap, ◌∙◌}
+-- `startup::passed` meets its contract: each register up to the highest is looked at, and past it they all are in the map. Assumes nothing.
+use mathlib.Core.Path.{◌≡◌, refl, ◌∙◌}
+use borrow.Author.Rules.{rules}
 use native.Mathlib.Omega.{arith}
-use Rattle.startup.specs.Machine.{reachable}
-use Rattle.startup.proofs.Map.{passed_none, passed-more, passed-fails, passed-rest}
+use Rattle.std.specs.List.{range_with_len, list_all}
+use Rattle.std.proofs.lemmas.Iterator.{YieldsList-from_range}
+use Rattle.std.proofs.lemmas.Iterator.Search.{all_from_yields_List}
+use Rattle.startup.specs.Machine.{reachable, item_at}
+use Rattle.startup.proofs.Map.{passed_listed, passed_few}
 use Rattle.startup.proofs.passed.Goals as goal
-
-pub loop-k-init : goal.loop-k-init
-loop-k-init c = (passed_none _, omega arith)
-
-pub returns-then-k-gt-HIGHEST_PLACE : goal.returns-then-k-gt-HIGHEST_PLACE
-returns-then-k-gt-HIGHEST_PLACE c = sym (passed-rest _ c.requires _ _ c.if-k-gt-HIGHEST_PLACE.true c.loop-k.invariant.0)
-
-pub returns-then-not-reaches : goal.returns-then-not-reaches
-returns-then-not-reaches c = sym (passed-fails _ _ _ c.loop-k-test.true (ap (reachable _) (sym c.item_at.ensures) ∙ sym c.reaches.ensures ∙ c.if-not-reaches.true))
-
-pub loop-k-preserved : goal.loop-k-preserved
-loop-k-preserved c = (passed-more _ _ c.loop-k.invariant.0 (ap (reachable _) (sym c.item_at.ensures) ∙ sym c.reaches.ensures ∙ c.if-not-reaches.false), omega arith)
 
 pub returns : goal.returns
 returns c =
-    let e : c.loop-k.k ≡ c.args.place = omega arith in
-    sym (rw e at c.loop-k.invariant.0)
+    let listed : c.all.result ≡ list_all (λ k. reachable c.args.setup.map (item_at c.args.setup k)) (range_with_len 0 c.min-most.result)
+    = all_from_yields_List (λ k. reachable c.args.setup.map (item_at c.args.setup k)) _ _ c.all.result c.all.ensures.ran
+    (YieldsList-from_range 0 c.min-most.result c.min-most.result refl (omega arith)) (λ x b q k. search rules) in
+    listed ∙ passed_listed c.args.setup c.min-most.result ∙ rw c.min-most.ensures (passed_few c.args.setup c.requires c.args.place)

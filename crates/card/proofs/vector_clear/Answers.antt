@@ -1,5 +1,0 @@
--- `card::vector_clear` meets its contract: the shift's own. Assumes nothing.
-use Rattle.card.proofs.vector_clear.Goals as goal
-
-pub returns : goal.returns
-returns c = rw c.vector_shift.ensures

@@ -1,7 +1,0 @@
--- `words::read64` meets its contract: it is two words of 32 bits, the low one first. Assumes nothing.
-use Rattle.std.proofs.Common.{arith}
-use Rattle.words.proofs.Laws.{read-parts}
-use Rattle.words.proofs.read64.Goals as goal
-
-pub returns : goal.returns
-returns c = omega (arith, read-parts 4 4 c.args.at c.args.s.now)
