@@ -1,30 +1,22 @@
--- What a call of the account answers is done, or one of the account's own numbers, 1 to 9: 10, 11 and 12 are the registers'.
+-- What a call of the account answers is done, or one of the account's own numbers, 1 to 9: 10 to 12 are the registers'.
 use Prim.Native.Nat.{ℕ, zero, suc, ◌+◌, ◌≤◌}
 use mathlib.Core.Path.{◌≡◌, refl}
-use mathlib.Core.Logic.{◌⊎◌, inl, inr}
-use mathlib.Core.Bool.{Bool, true, false}
+use mathlib.Core.Logic.{◌⊎◌, inl}
 use mathlib.Core.List.{List}
 use lib.ListN.{length}
-use lib.Dec.{leb, ltb}
 use native.Mathlib.Omega.{arith}
-use borrow.Author.Tests.{leb-true}
-use Rattle.refusals.specs.declared.Refusal.{Refusal}
-use Rattle.refusals.specs.declared.Refusal.TheVariants.{Unsound, BadHandle, TooLarge, NoneFree}
-use Rattle.refusals.specs.Numbers.{refusal_number}
 use Rattle.pool.specs.declared.Handle.{Handle}
 use Rattle.rules.specs.declared.Account.{Account}
 use Rattle.rules.specs.Answers.{Counts, Kept, Taken, Truncated}
-use Rattle.rules.specs.Verdict.{Verdict, Done, Refused}
-use Rattle.rules.specs.Numbers.{number, unless, verdict_of}
+use Rattle.rules.specs.Verdict.{Verdict, Done}
+use Rattle.rules.specs.Numbers.{number, verdict_of}
 use Rattle.rules.specs.Handles.{Handles}
-use Rattle.rules.specs.Sound.{sound}
-use Rattle.rules.specs.Refusals.{packet_fits, sendable, fresh_verdict, counts_verdict, take_verdict, batch_verdict, handle_verdict, view_verdict, clone_verdict, headroom_verdict, start_verdict, receive_verdict, handles_verdict, send_verdict}
-use Rattle.rules.specs.Packets.{Batched, Cloned, fresh_call, counts_call, take_call, batch_call, release_call, truncate_call, clone_call}
+use Rattle.rules.specs.Refusals.{fresh_verdict, counts_verdict, take_verdict, batch_verdict, handle_verdict, view_verdict, clone_verdict, headroom_verdict, start_verdict, receive_verdict, handles_verdict, send_verdict}
+use Rattle.rules.specs.Packets.{Batched, Cloned, counts_call, take_call, batch_call, release_call, truncate_call, clone_call}
 use Rattle.rules.specs.Receive.{AfterStart, AfterReceive, start_call, receive_call}
 use Rattle.rules.specs.Send.{AfterSend, send_call}
 use Rattle.promises.specs.History.{Step, verdict_by}
 use Rattle.promises.specs.History as h
-use Rattle.promises.proofs.Refused.{of-table}
 use Rattle.promises.proofs.Never.{said}
 
 -- done, or one of the account's numbers
@@ -35,7 +27,7 @@ pub fresh-known : (entries size receives sends : ℕ) → Known (fresh_verdict e
 unfolding fresh_verdict
 fresh-known entries size receives sends = grind arith
 
--- the handles of a send
+-- the handles of a send, from a place on
 handles-known : (a : Account) (lists : Handles) (i n : ℕ) → Known (handles_verdict a lists i n)
 unfolding handles_verdict
 handles-known a lists i zero = inl refl

@@ -5,6 +5,7 @@ pub mod Hands
 pub mod Never
 pub mod Refused
 pub mod Known
+pub mod Results
 pub mod Around
 pub mod Queues
 pub mod Done
@@ -12,4 +13,5 @@ pub mod Written
 pub mod Examples
 pub mod Versions
 pub mod Unique
+pub mod OneResult
 pub mod Promises

@@ -1,24 +1,17 @@
 -- No call of a history is refused with 1. Only the first test of a call gives that number, and the account of a history is sound.
-use Prim.Native.Nat.{ℕ, zero, suc, ◌+◌, min}
+use Prim.Native.Nat.{ℕ, zero, suc, ◌+◌}
 use mathlib.Core.Path.{◌≡◌, refl, ap, ◌∙◌}
-use mathlib.Core.Bool.{Bool, true, false, not}
 use mathlib.Core.List.{List}
 use lib.ListN.{length}
-use lib.Dec.{ltb, leb}
 use native.Mathlib.Omega.{arith}
-use Rattle.limits.specs.Limits.{SLOTS, HEADROOM}
-use Rattle.laws.specs.Test.{both}
 use Rattle.pool.specs.declared.Handle.{Handle}
 use Rattle.rules.specs.declared.Account.{Account}
 use Rattle.rules.specs.Answers.{Counts, Kept, Taken, Truncated}
 use Rattle.refusals.specs.declared.Refusal.{Refusal}
-use Rattle.refusals.specs.declared.Refusal.TheVariants.{WrongSize, NoQueue, BadHandle, TooLarge, NoneFree, NoHeadroom, NotNow}
 use Rattle.rules.specs.Verdict.{Verdict, Done, Refused}
-use Rattle.refusals.specs.Numbers.{refusal_number}
-use Rattle.rules.specs.Numbers.{number, unless, on_verdict, verdict_of}
-use Rattle.rules.specs.Handles.{Handles, has_room}
-use Rattle.rules.specs.Sound.{is_good}
-use Rattle.rules.specs.Refusals.{rings_fit, memory_fits, packet_fits, batch_of, sendable, counts_verdict, take_verdict, batch_verdict, handle_verdict, view_verdict, clone_verdict, headroom_verdict, start_verdict, receive_verdict, handles_verdict, send_verdict}
+use Rattle.rules.specs.Numbers.{number, on_verdict, verdict_of}
+use Rattle.rules.specs.Handles.{Handles}
+use Rattle.rules.specs.Refusals.{counts_verdict, take_verdict, batch_verdict, handle_verdict, view_verdict, clone_verdict, headroom_verdict, start_verdict, receive_verdict, handles_verdict, send_verdict}
 use Rattle.rules.specs.Packets.{Batched, Cloned, counts_call, take_call, batch_call, release_call, truncate_call, clone_call}
 use Rattle.rules.specs.Receive.{AfterStart, AfterReceive, start_call, receive_call}
 use Rattle.rules.specs.Send.{AfterSend, send_call}
@@ -26,69 +19,54 @@ use Rattle.promises.specs.History.{Step, History, verdict_by}
 use Rattle.promises.specs.History as h
 use Rattle.promises.proofs.Always.{always-sound}
 
--- a verdict whose number is not 1
-record Other (v : Verdict) : Type 0 where
-  not-1 : number v ≡ 1 → ⊥
-
-done-other : Other Done
-done-other = record { not-1 = λ e. omega arith }
-
--- a test that gives another number, and then the rest
-unless-other : (test : Bool) (why : Refusal) {rest : Verdict} → (refusal_number why ≡ 1 → ⊥) → Other rest → Other (unless test why rest)
-unless-other true why ne other = other
-unless-other false why ne other = record { not-1 = ne }
-
-handles-other : (a : Account) (lists : Handles) (i n : ℕ) → Other (handles_verdict a lists i n)
+-- the handles of a send, from a place on
+handles-not-1 : (a : Account) (lists : Handles) (i n : ℕ) → number (handles_verdict a lists i n) ≡ 1 → ⊥
 unfolding handles_verdict
-handles-other a lists i zero = done-other
-handles-other a lists i (suc n) = by-test (sendable a lists i) (handles-other a lists (i + 1) n)
-  where
-    by-test : (b : Bool) → Other (handles_verdict a lists (i + 1) n) → Other (elim b [ true ↦ handles_verdict a lists (i + 1) n | false ↦ Refused (BadHandle i) ])
-    by-test true other = other
-    by-test false other = record { not-1 = λ e. omega arith }
+handles-not-1 a lists i zero = grind arith
+handles-not-1 a lists i (suc n) = grind (arith, handles-not-1 a lists (i + 1) n)
 
 module _ {a : Account} (t : History a) where
   pub counts-not-1 : number (counts_verdict a) ≡ 1 → ⊥
   unfolding counts_verdict
-  counts-not-1 = rw (always-sound t) done-other.not-1
+  counts-not-1 = grind (arith, always-sound t)
 
   pub take-not-1 : (len : ℕ) → number (take_verdict a len) ≡ 1 → ⊥
   unfolding take_verdict
-  take-not-1 len = rw (always-sound t) (unless-other (packet_fits a len) TooLarge (λ e. omega arith) (unless-other (ltb 0 a.free.depth) NoneFree (λ e. omega arith) done-other)).not-1
+  take-not-1 len = grind (arith, always-sound t)
 
   pub batch-not-1 : (n : ℕ) (lists : Handles) → number (batch_verdict a n lists) ≡ 1 → ⊥
   unfolding batch_verdict
-  batch-not-1 n lists = rw (always-sound t) (unless-other (has_room (min (batch_of n) a.entries) lists) WrongSize (λ e. omega arith) done-other).not-1
+  batch-not-1 n lists = grind (arith, always-sound t)
 
   module _ (h : Handle) where
     pub handle-not-1 : number (handle_verdict a h) ≡ 1 → ⊥
     unfolding handle_verdict
-    handle-not-1 = rw (always-sound t) (unless-other (is_good a h) (BadHandle 0) (λ e. omega arith) done-other).not-1
+    handle-not-1 = grind (arith, always-sound t)
 
     pub view-not-1 : (bytes : ℕ) → number (view_verdict a h bytes) ≡ 1 → ⊥
     unfolding view_verdict
-    view-not-1 bytes = rw (always-sound t) (unless-other (memory_fits a bytes) WrongSize (λ e. omega arith) (unless-other (is_good a h) (BadHandle 0) (λ e. omega arith) done-other)).not-1
+    view-not-1 bytes = grind (arith, always-sound t)
 
     pub clone-not-1 : (bytes : ℕ) → number (clone_verdict a h bytes) ≡ 1 → ⊥
     unfolding clone_verdict
-    clone-not-1 bytes = rw (always-sound t) (unless-other (memory_fits a bytes) WrongSize (λ e. omega arith) (unless-other (is_good a h) (BadHandle 0) (λ e. omega arith) (unless-other (packet_fits a h.length) TooLarge (λ e. omega arith) (unless-other (ltb 0 a.free.depth) NoneFree (λ e. omega arith) done-other)))).not-1
+    clone-not-1 bytes = grind (arith, always-sound t)
 
     pub headroom-not-1 : (asked bytes : ℕ) → number (headroom_verdict a h asked bytes) ≡ 1 → ⊥
     unfolding headroom_verdict
-    headroom-not-1 asked bytes = rw (always-sound t) (unless-other (memory_fits a bytes) WrongSize (λ e. omega arith) (unless-other (is_good a h) (BadHandle 0) (λ e. omega arith) (unless-other (leb asked HEADROOM) TooLarge (λ e. omega arith) (unless-other (leb asked h.offset) NoHeadroom (λ e. omega arith) done-other)))).not-1
+    headroom-not-1 asked bytes = grind (arith, always-sound t)
 
   module _ (q : ℕ) (ring addresses : List ℕ) where
     pub start-not-1 : number (start_verdict a q ring addresses) ≡ 1 → ⊥
     unfolding start_verdict
-    start-not-1 = rw (always-sound t) (unless-other (rings_fit a.entries ring addresses) WrongSize (λ e. omega arith) (unless-other (ltb q a.receives) NoQueue (λ e. omega arith) (unless-other (not a.started) NotNow (λ e. omega arith) (unless-other (leb SLOTS a.free.depth) NoneFree (λ e. omega arith) done-other)))).not-1
+    start-not-1 = grind (arith, always-sound t)
 
     pub receive-not-1 : (n : ℕ) (lists : Handles) → number (receive_verdict a q ring addresses n lists) ≡ 1 → ⊥
     unfolding receive_verdict
-    receive-not-1 n lists = rw (always-sound t) (unless-other (both (rings_fit a.entries ring addresses) (has_room (min n SLOTS) lists)) WrongSize (λ e. omega arith) (unless-other (ltb q a.receives) NoQueue (λ e. omega arith) (unless-other a.started NotNow (λ e. omega arith) done-other))).not-1
+    receive-not-1 n lists = grind (arith, always-sound t)
 
     pub send-not-1 : (lists : Handles) → number (send_verdict a q ring addresses lists) ≡ 1 → ⊥
     unfolding send_verdict
-    send-not-1 lists = rw (always-sound t) (unless-other (both (rings_fit a.entries ring addresses) (has_room (length lists.ids) lists)) WrongSize (λ e. omega arith) (unless-other (ltb q a.sends) NoQueue (λ e. omega arith) (handles-other a lists 0 (length lists.ids)))).not-1
+    send-not-1 lists = grind (arith, always-sound t, handles-not-1 a lists 0 (length lists.ids))
 
 -- ---- so no step of a history is
 

@@ -1,17 +1,15 @@
 -- Demand 1: a refused call changes nothing. Where a call's verdict is a refusal, account, rings, lists and packet memory are as they were
 -- given, on every account, sound or forged.
 use Prim.Native.Nat.{ℕ, ◌≤◌}
-use mathlib.Core.Path.{◌≡◌, refl}
-use mathlib.Core.Logic.{◌⊎◌, inl, inr}
+use mathlib.Core.Path.{◌≡◌}
+use mathlib.Core.Logic.{◌⊎◌}
 use mathlib.Core.List.{List}
 use lib.ListN.{length}
 use native.Mathlib.Omega.{arith}
 use Rattle.pool.specs.declared.Handle.{Handle}
 use Rattle.rules.specs.declared.Account.{Account}
 use Rattle.refusals.specs.declared.Refusal.{Refusal}
-use Rattle.refusals.specs.declared.Refusal.TheVariants.{Unsound, WrongSize, NoQueue, BadHandle, TooLarge, NoneFree, NoHeadroom, NotNow, OutOfRange, Waited, OutsideMap, NoInterrupt}
 use Rattle.rules.specs.Verdict.{Verdict, Done, Refused}
-use Rattle.refusals.specs.Numbers.{refusal_number}
 use Rattle.rules.specs.Numbers.{number}
 use Rattle.rules.specs.Ended as ended
 use Rattle.rules.specs.Tail.{Unwritten}
@@ -21,24 +19,9 @@ use Rattle.rules.specs.Packets.{take_call, batch_call, release_call, truncate_ca
 use Rattle.rules.specs.Receive.{start_call, receive_call}
 use Rattle.rules.specs.Send.{send_call}
 
--- every answer is done or a number of the table; Known.antt has that an account's call answers none of the registers'
-pub of-table : (why : Refusal) → (1 ≤ refusal_number why) × (refusal_number why ≤ 12)
-of-table Unsound = (omega arith, omega arith)
-of-table WrongSize = (omega arith, omega arith)
-of-table NoQueue = (omega arith, omega arith)
-of-table (BadHandle index) = (omega arith, omega arith)
-of-table TooLarge = (omega arith, omega arith)
-of-table NoneFree = (omega arith, omega arith)
-of-table NoHeadroom = (omega arith, omega arith)
-of-table NotNow = (omega arith, omega arith)
-of-table OutOfRange = (omega arith, omega arith)
-of-table (Waited register) = (omega arith, omega arith)
-of-table (OutsideMap register) = (omega arith, omega arith)
-of-table NoInterrupt = (omega arith, omega arith)
-
+-- every answer is done or a number of the table (Known.antt: of an account's call, none of the registers')
 pub answer-known : (v : Verdict) → (v ≡ Done) ⊎ ((1 ≤ number v) × (number v ≤ 12))
-answer-known Done = inl refl
-answer-known (Refused why) = inr (of-table why)
+answer-known v = grind arith
 
 module _ (a : Account) (why : Refusal) where
   pub take-refused : (len : ℕ) → take_verdict a len ≡ Refused why → take_call a len ≡ record { verdict = Refused why; handle = no_handle; account = a }

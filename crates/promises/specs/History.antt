@@ -1,6 +1,6 @@
 -- A history: a fresh account that answered 0, and then any public calls with any arguments, each given the account that the last one
 -- returned, with any bytes in what it is lent (the card writes what it likes between calls), refused calls too. A call's outcome is
--- whatever satisfies that call's own postcondition.
+-- whatever satisfies that call's own postcondition: proofs/Results.antt has that each call's Result is such a step.
 use Rattle.std.specs.Prelude.{ℕ, ◌≡◌, List, length}
 use Rattle.pool.specs.declared.Handle.{Handle}
 use Rattle.rules.specs.declared.Account.{Account}

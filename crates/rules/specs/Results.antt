@@ -1,5 +1,5 @@
 -- How a call's result, with the account that it leaves, says all that the call answers. A refusal answers no handle, no count and no tail.
-use Rattle.std.specs.Prelude.{ℕ, List, Result, Ok, Err, Option, Some, None, replicate}
+use Rattle.std.specs.Prelude.{ℕ, Result, Ok, Err, Option, Some, None, replicate}
 use Rattle.limits.specs.Limits.{SENDS}
 use Rattle.refusals.specs.declared.Refusal.{Refusal}
 use Rattle.pool.specs.declared.Handle.{Handle}
