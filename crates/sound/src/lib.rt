@@ -53,6 +53,8 @@ fn queues_placed(account: &Account) -> bool
     (0..account.sends).all(|q| index_pair(account.clean[q], account.tx[q]))
 }
 
+// An account and its marks are lent apart: of a struct of both each call would have to promise that the account stays, which `&` says.
+
 // Marks an id of a hand's list, if it may stand there. A mark is 1, and none 0: numbers, as `mark_all` of specs/Marks.antt has them.
 fn mark(account: &Account, seen: &mut [u8; ENTRIES], id: u16, hand: u8) -> bool
     requires { account.now.entries ≤ ENTRIES }
