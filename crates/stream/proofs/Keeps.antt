@@ -37,7 +37,7 @@ module _ {a : Account} (full : Full a) (e : sound a ≡ true) where
   -- a receive that is done starts ready
   pub ready-first : (n : ℕ) (rx addresses : List ℕ) (lists : Handles) → receive_verdict a 0 rx addresses n lists ≡ Done → Ready n (receiving a rx lists)
   ready-first n rx addresses lists done =
-      let lent = receivable a full rx addresses 0 n lists done in
+      let lent = receivable a rx addresses 0 n lists done in
       record { place = lent.place; whole = lent.whole; room = rw zero-add lent.room; not-over = omega arith; cleared = λ j h. absurd (omega arith) }
 
   -- a receive takes no more than a ring has: a slot taken reads not done

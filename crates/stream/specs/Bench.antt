@@ -10,12 +10,14 @@ use Rattle.rules.specs.Numbers.{number, verdict_of, tail_or}
 use Rattle.rules.specs.Handles.{Handles, handles, Room}
 use Rattle.rules.specs.Receive.{AfterStart, start_call, AfterReceive, receive_call}
 use Rattle.rules.specs.Send.{AfterSend, send_call}
+use Rattle.std.specs.Prelude.{Option, Some, None}
 use Rattle.records.specs.declared.Record.{Record}
-use Rattle.records.specs.declared.Record.TheVariants.{Fresh, Start, Take, Release, Done, Frame, Receive, Send, Bad}
+use Rattle.records.specs.declared.Record.TheVariants as kind
+use Rattle.records.specs.declared.Call.{Call}
+use Rattle.records.specs.declared.Call.TheVariants.{Start, Take, Release, Receive, Send}
 use Rattle.records.specs.Records.{MOST}
 use Rattle.records.specs.Card.{SEND-BYTES}
-use Rattle.tally.specs.declared.Answer.{Answer}
-use Rattle.tally.specs.Tally.{POOL, Memory, last_handle, answered_as, remembered, TakeLeft, take_answer, release_answer}
+use Rattle.tally.specs.Tally.{Answer, POOL, Memory, last_handle, answered_as, remembered, TakeLeft, take_answer, release_answer}
 
 -- ---- handles one after the other
 
@@ -151,14 +153,17 @@ after_receive r s = outcome_as r.answer r.rx s.tx r.memory
 abbrev pub after_send : SendLeft → State → Outcome
 after_send r s = outcome_as r.answer s.rx r.tx s.memory
 
-abbrev pub account_rule : Record → List ℕ → List ℕ → State → Outcome
-account_rule (Fresh entries size sends) b addresses s = quiet s
-account_rule Start b addresses s = after_start (start_answer s.account s.rx (each s addresses)) s
-account_rule (Take size) b addresses s = after_take (take_answer s.account size s.memory) s
-account_rule (Release id) b addresses s = outcome_as (release_answer s.account id s.memory) s.rx s.tx s.memory
-account_rule (Done queue slot) b addresses s = quiet s
-account_rule (Frame slot status len) b addresses s = quiet s
-account_rule (Receive n) b addresses s = after_receive (receive_answer s.account n s.rx (each s addresses) s.memory) s
-account_rule (Send queue count) b addresses s =
+abbrev pub call_rule : Call → List ℕ → List ℕ → State → Outcome
+call_rule Start b addresses s = after_start (start_answer s.account s.rx (each s addresses)) s
+call_rule (Take size) b addresses s = after_take (take_answer s.account size s.memory) s
+call_rule (Release id) b addresses s = outcome_as (release_answer s.account id s.memory) s.rx s.tx s.memory
+call_rule (Receive n) b addresses s = after_receive (receive_answer s.account n s.rx (each s addresses) s.memory) s
+call_rule (Send queue count) b addresses s =
     after_send (send_answer s.account queue (send_lists b count s.memory) (each s addresses) s.tx) s
-account_rule Bad b addresses s = quiet s
+
+-- any other record leaves the account
+abbrev pub account_rule : Option Record → List ℕ → List ℕ → State → Outcome
+account_rule (Some (kind.Fresh entries size sends)) b addresses s = quiet s
+account_rule (Some (kind.Card event)) b addresses s = quiet s
+account_rule (Some (kind.Call call)) b addresses s = call_rule call b addresses s
+account_rule None b addresses s = quiet s

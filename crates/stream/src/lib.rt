@@ -4,19 +4,20 @@
 
 #![tactic(auto)]
 
-ghost use Rattle.std.specs.Prelude.{◌≡◌, true, ◌+◌, ◌*◌, ◌≤◌, ◌<◌, length, take};
+ghost use Rattle.std.specs.Prelude.{◌≡◌, Some, true, ◌+◌, ◌*◌, ◌≤◌, ◌<◌, length, take};
 ghost use Rattle.limits.specs.Limits.{ENTRIES, SLOTS};
-ghost use Rattle.rules.specs.Numbers.{number as number_of, verdict_of};
 ghost use Rattle.rules.specs.Handles.{handles, Room};
 ghost use Rattle.rules.specs.Sound.{sound};
+ghost use Rattle.records.specs.declared.Record.TheVariants as Record;
 ghost use Rattle.records.specs.Records.{record_of};
 ghost use Rattle.records.specs.Card.{SEND-BYTES};
-ghost use Rattle.tally.specs.Tally.{memory_as};
-ghost use Rattle.stream.specs.Bench.{send_lists, remember_all, start_answered, start_answer, receive_answered, receive_answer, send_answered, send_answer, bench_as, Bench, outcome_as, account_rule};
+ghost use Rattle.tally.specs.Tally.{memory_as, answer_as};
+ghost use Rattle.stream.specs.Bench.{send_lists, remember_all, start_answered, start_answer, receive_answered, receive_answer, send_answered, send_answer, bench_as, Bench, outcome_as, call_rule};
 
 use limits::ENTRIES;
-use records::{RING_BYTES, Record};
-use rules::{Account, Ended, Refusal, Tail};
+use records::{Call, RING_BYTES};
+use refusals::Refusal;
+use rules::Account;
 use tally::Answer;
 
 // ---- remembered handles
@@ -57,7 +58,8 @@ fn gather(
     ensures { handles (take count pools.new) (take count ids.new) (take count froms.new) (take count sizes.new) ≡ send_lists rest.now count (memory_as offsets.now lengths.now) }
 {
     for i in 0..count {
-        let handle = tally::last_handle(words::read16(rest, 6 + 2 * i), offsets, lengths);
+        let id = words::read(rest, 6 + 2 * i, 2) as u16;
+        let handle = tally::last_handle(id, offsets, lengths);
         pools[i] = handle.pool;
         ids[i] = handle.id;
         froms[i] = handle.offset;
@@ -68,33 +70,18 @@ fn gather(
 // ---- records on a sound account
 
 // The receive ring starts; the value is the tail.
-fn start(account: Account, rx: &mut [u8], addresses: &[u64]) -> Answer
-    requires { sound account ≡ true }
-    ensures { start_answered result rx.new ≡ start_answer account rx.old addresses.now }
+fn start(account: &mut Account, rx: &mut [u8], addresses: &[u64]) -> Answer
+    requires { sound account.old ≡ true }
+    ensures { start_answered (answer_as result account.new) rx.new ≡ start_answer account.old rx.old addresses.now }
 {
-    let started = receiving::start(account, 0, rx, addresses);
-    let verdict = started.verdict;
-    let tail = started.tail;
-    let next = started.account;
-    match tail {
-        Tail::Unwritten => tally::answered(calls::number(verdict), 0, next),
-        Tail::Written(slot) => tally::answered(calls::number(verdict), slot, next),
-    }
-}
-
-// Document 01's number of a receive, by its end.
-fn ended_number(ended: Ended) -> u64
-    ensures { result ≡ number_of (verdict_of ended) }
-{
-    match ended {
-        Ended::Refused(why) => calls::refusal_number(why),
-        Ended::Stopped(_) => 0,
-    }
+    tally::whole(account);
+    let outcome = receiving::start(account, 0, rx, addresses);
+    tally::answered(outcome, account)
 }
 
 // Frames are received into the lists, and their handles remembered; the value is their count.
 fn receive(
-    account: Account,
+    account: &mut Account,
     n: usize,
     rx: &mut [u8],
     addresses: &[u64],
@@ -105,20 +92,22 @@ fn receive(
     froms: &mut [u16],
     sizes: &mut [u16],
 ) -> Answer
-    requires { (sound account ≡ true) × (length offsets.old ≡ ENTRIES) × (length lengths.old ≡ ENTRIES) × Room SLOTS (handles pools.old ids.old froms.old sizes.old) }
-    ensures { receive_answered result rx.new (memory_as offsets.new lengths.new) ≡ receive_answer account n rx.old addresses.now (memory_as offsets.old lengths.old) }
+    requires { (sound account.old ≡ true) × (length offsets.old ≡ ENTRIES) × (length lengths.old ≡ ENTRIES) × Room SLOTS (handles pools.old ids.old froms.old sizes.old) }
+    ensures { receive_answered (answer_as result account.new) rx.new (memory_as offsets.new lengths.new) ≡ receive_answer account.old n rx.old addresses.now (memory_as offsets.old lengths.old) }
 {
-    let received = receiving::receive(account, 0, rx, addresses, n, pools, ids, froms, sizes);
-    let count = received.count;
-    let ended = received.ended;
-    let next = received.account;
-    remember(count, ids, froms, sizes, offsets, lengths);
-    tally::answered(ended_number(ended), count, next)
+    tally::whole(account);
+    match receiving::receive(account, 0, rx, addresses, n, pools, ids, froms, sizes) {
+        Err(why) => tally::answered(Err(why), account),
+        Ok(received) => {
+            remember(received.count, ids, froms, sizes, offsets, lengths);
+            tally::answered(Ok(received.count), account)
+        }
+    }
 }
 
 // The listed ids are sent by their last handles; the value is how many were.
 fn send(
-    account: Account,
+    account: &mut Account,
     queue: usize,
     count: usize,
     rest: &[u8],
@@ -131,15 +120,16 @@ fn send(
     froms: &mut [u16],
     sizes: &mut [u16],
 ) -> Answer
-    requires { (sound account ≡ true) × (length tx.old ≡ SEND-BYTES) × (6 + 2 * count ≤ length rest.now) × (length addresses.now ≡ account.entries) × (length offsets.now ≡ ENTRIES) × (length lengths.now ≡ ENTRIES) × Room count (handles pools.old ids.old froms.old sizes.old) }
-    ensures { send_answered result tx.new ≡ send_answer account queue (send_lists rest.now count (memory_as offsets.now lengths.now)) addresses.now tx.old }
+    requires { (sound account.old ≡ true) × (length tx.old ≡ SEND-BYTES) × (6 + 2 * count ≤ length rest.now) × (length addresses.now ≡ account.old.entries) × (length offsets.now ≡ ENTRIES) × (length lengths.now ≡ ENTRIES) × Room count (handles pools.old ids.old froms.old sizes.old) }
+    ensures { send_answered (answer_as result account.new) tx.new ≡ send_answer account.old queue (send_lists rest.now count (memory_as offsets.now lengths.now)) addresses.now tx.old }
 {
     if account.sends <= queue {
-        return tally::answered(calls::refusal_number(Refusal::NoQueue), 0, account);
+        return tally::answered(Err(Refusal::NoQueue), account);
     }
+    tally::whole(account);
     gather(rest, count, offsets, lengths, pools, ids, froms, sizes);
     let from = queue * RING_BYTES;
-    let sent = sending::send(
+    match sending::send(
         account,
         queue,
         &mut tx[from..from + RING_BYTES],
@@ -148,17 +138,17 @@ fn send(
         &ids[..count],
         &froms[..count],
         &sizes[..count],
-    );
-    let verdict = sent.verdict;
-    let next = sent.account;
-    tally::answered(calls::number(verdict), sent.count, next)
+    ) {
+        Err(why) => tally::answered(Err(why), account),
+        Ok(sent) => tally::answered(Ok(sent.count), account),
+    }
 }
 
-// What a record answers and leaves. A record of the card's, and one that may not come, answers 0 and leaves all as it was.
+// What a call answers and leaves.
 pub fn on_account(
-    what: Record,
+    call: Call,
     rest: &[u8],
-    account: Account,
+    account: &mut Account,
     rx: &mut [u8],
     tx: &mut [u8],
     addresses: &[u64],
@@ -169,43 +159,21 @@ pub fn on_account(
     froms: &mut [u16],
     sizes: &mut [u16],
 ) -> Answer
-    requires { (sound account ≡ true) × (what ≡ record_of rest.now) × (length rest.now < 65536) × Bench (bench_as account rx.old tx.old (memory_as offsets.old lengths.old)) addresses.now (handles pools.old ids.old froms.old sizes.old) }
-    ensures answer { outcome_as result rx.new tx.new (memory_as offsets.new lengths.new) ≡ account_rule what rest.now addresses.now (bench_as account rx.old tx.old (memory_as offsets.old lengths.old)) }
-    ensures keeps { sound result.account ≡ true }
+    requires { (sound account.old ≡ true) × (record_of rest.now ≡ Some (Record.Call call)) × (length rest.now < 65536) × Bench (bench_as account.old rx.old tx.old (memory_as offsets.old lengths.old)) addresses.now (handles pools.old ids.old froms.old sizes.old) }
+    ensures answer { outcome_as (answer_as result account.new) rx.new tx.new (memory_as offsets.new lengths.new) ≡ call_rule call rest.now addresses.now (bench_as account.old rx.old tx.old (memory_as offsets.old lengths.old)) }
+    ensures keeps { sound account.new ≡ true }
 {
-    match what {
-        Record::Fresh(_, _, _) => tally::answered(0, 0, account),
-        Record::Start => start(account, rx, &addresses[..account.entries]),
-        Record::Take(size) => tally::take(account, size, offsets, lengths),
-        Record::Release(id) => tally::release(account, id, offsets, lengths),
-        Record::Done(_, _) => tally::answered(0, 0, account),
-        Record::Frame(_, _, _) => tally::answered(0, 0, account),
-        Record::Receive(n) => receive(
-            account,
-            n,
-            rx,
-            &addresses[..account.entries],
-            offsets,
-            lengths,
-            pools,
-            ids,
-            froms,
-            sizes,
+    tally::whole(account);
+    let known = &addresses[..account.entries];
+    match call {
+        Call::Start => start(account, rx, known),
+        Call::Take(size) => tally::take(account, size, offsets, lengths),
+        Call::Release(id) => tally::release(account, id, offsets, lengths),
+        Call::Receive(n) => receive(
+            account, n, rx, known, offsets, lengths, pools, ids, froms, sizes,
         ),
-        Record::Send(queue, count) => send(
-            account,
-            queue,
-            count,
-            rest,
-            tx,
-            &addresses[..account.entries],
-            offsets,
-            lengths,
-            pools,
-            ids,
-            froms,
-            sizes,
+        Call::Send { queue, count } => send(
+            account, queue, count, rest, tx, known, offsets, lengths, pools, ids, froms, sizes,
         ),
-        Record::Bad => tally::answered(0, 0, account),
     }
 }

@@ -14,7 +14,7 @@ loop-i-init c = (omega arith, refl, refl, refl, refl, refl)
 pub loop-i-preserved : goal.loop-i-preserved
 loop-i-preserved c = (
   omega arith,
-  rw (c.last_handle-handle.ensures, c.read16.ensures)
+  rw (c.last_handle-handle.ensures, c.read-id.ensures.value)
       (gather-one c.args.rest.now _ _ c.loop-i.i (record { pools = omega arith; ids = omega arith; offsets = omega arith; lengths = omega arith }) c.loop-i.invariant.1),
   simp length-set c.loop-i.invariant.2,
   simp length-set c.loop-i.invariant.3,

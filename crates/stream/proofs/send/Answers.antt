@@ -15,21 +15,17 @@ use Rattle.stream.proofs.Keeps.{send-stays}
 use Rattle.stream.proofs.Memory.{room-kept, firsts}
 use borrow.Author.Rules.{rules}
 use Rattle.stream.proofs.send.Goals as goal
-use Rattle.stream.proofs.send.Goals.{After-gather, After-send-sent}
+use Rattle.stream.proofs.send.Goals.{After-gather}
 
 -- ---- no such queue
 
 pub returns-then-account-queue : goal.returns-then-account-queue
 unfolding send_answer
-returns-then-account-queue c = rw (c.answered.ensures, c.refusal_number.ensures, le-ltb _ _ c.if-account-queue.true)
+returns-then-account-queue c = rw (c.answered.ensures, le-ltb _ _ c.if-account-queue.true)
 
 -- ---- the handles are gathered: the queue is one of the rings, and the lists have room for as many handles as before
 
 module _ (c : After-gather) where
-  -- the account's arrays have their lengths
-  full : Full c.args.account
-  full = record { stack = search rules; hands = search rules; slots = search rules; sent = search rules; clean = search rules; tx = search rules }
-
   known : c.args.queue < SENDS
   known = omega (arith, c.if-account-queue.false, (sound-means _ c.requires.0).numbers.few-sends)
 
@@ -70,19 +66,16 @@ slice_bounds-send-end-9 c = sym (length-take-le _ _ (room (goal.at.slice_bounds-
 
 -- ---- they are sent on the part that was lent, and that is the queue's own ring: a send on another ring is refused here
 
-own-ring : (c : After-send-sent) →
-    let a = c.args in let last = c.gather.new in
-    sent_as c.send-sent.result c.send-sent.new.ring
-    ≡ send_call a.account a.queue (take RING-BYTES (drop (a.queue * RING-BYTES) a.tx.now)) a.addresses.now
-    (firsts a.count (handles last.pools last.ids last.froms last.sizes))
-own-ring c = rw ring_long at c.send-sent.ensures
+pub answered-requires-in-Err : goal.answered-requires-in-Err
+answered-requires-in-Err c = rw (ap (λ (o : AfterSend). o.answer.account) c.in-Err.ensures) (send-stays c.whole.ensures c.requires.0 _ _ _ _)
 
-pub answered-requires-2 : goal.answered-requires-2
-answered-requires-2 c =
-    let g = (goal.at.answered-requires-2 c).After-gather in
-    rw (ap (λ (o : AfterSend). o.answer.account) (own-ring (goal.at.answered-requires-2 c).After-send-sent)) (send-stays (full g) c.requires.0 _ _ _ _)
+pub answered-requires-in-Ok : goal.answered-requires-in-Ok
+answered-requires-in-Ok c = rw (ap (λ (o : AfterSend). o.answer.account) c.in-Ok.ensures) (send-stays c.whole.ensures c.requires.0 _ _ _ _)
 
-pub returns : goal.returns
+pub returns-in-Err : goal.returns-in-Err
 unfolding send_answer
-returns c =
-    rw (c.answered-2.ensures, c.number.ensures, lt-ltb _ _ c.if-account-queue.false, ring_long, ← c.gather.ensures, ← own-ring (goal.at.returns c).After-send-sent)
+returns-in-Err c = rw (c.answered-in-Err.ensures, lt-ltb _ _ c.if-account-queue.false, ring_long, ← c.gather.ensures, ← (rw ring_long at c.in-Err.ensures))
+
+pub returns-in-Ok : goal.returns-in-Ok
+unfolding send_answer
+returns-in-Ok c = rw (c.answered-in-Ok.ensures, lt-ltb _ _ c.if-account-queue.false, ring_long, ← c.gather.ensures, ← (rw ring_long at c.in-Ok.ensures))

@@ -1,31 +1,35 @@
 -- `stream::start` meets its contract: the tail of the start, and its account is sound. Assumes nothing.
-use mathlib.Core.Path.{◌≡◌, ap}
-use mathlib.Core.Bool.{true}
-use Rattle.rules.specs.Sound.{sound, Full}
+use Prim.Native.Nat.{ℕ}
+use mathlib.Core.Path.{◌≡◌, refl, sym, ap, ◌∙◌}
+use Rattle.std.proofs.Common.{Result, Ok, Err}
+use Rattle.refusals.specs.declared.Refusal.{Refusal}
+use Rattle.rules.specs.declared.Account.{Account}
+use Rattle.rules.specs.Numbers.{tail_or}
+use Rattle.rules.specs.Results.{says, start_as}
 use Rattle.rules.specs.Receive.{AfterStart}
+use Rattle.tally.specs.Tally.{value_of}
 use Rattle.stream.specs.Bench.{start_answer}
 use Rattle.stream.proofs.Keeps.{start-stays}
-use borrow.Author.Rules.{rules}
 use Rattle.stream.proofs.start.Goals as goal
-use Rattle.stream.proofs.start.Goals.{After-start-started}
 
--- the account's arrays have their lengths
-full : (c : After-start-started) → Full c.args.account
-full c = record { stack = search rules; hands = search rules; slots = search rules; sent = search rules; clean = search rules; tx = search rules }
+-- the value of a start is its tail
+tail-told : (r : Result ℕ Refusal) (a : Account) → tail_or 0 (start_as r a).tail ≡ value_of r
+tail-told (Ok slot) a = refl
+tail-told (Err why) a = refl
 
-left-sound : (c : After-start-started) → sound c.start-started.result.account ≡ true
-left-sound c = rw (ap (λ (o : AfterStart). o.answer.account) c.start-started.ensures) (start-stays (full c) c.requires _ _)
+verdict-told : (r : Result ℕ Refusal) (a : Account) → (start_as r a).verdict ≡ says r
+verdict-told (Ok slot) a = refl
+verdict-told (Err why) a = refl
+
+account-told : (r : Result ℕ Refusal) (a : Account) → (start_as r a).account ≡ a
+account-told (Ok slot) a = refl
+account-told (Err why) a = refl
 
 pub answered-requires : goal.answered-requires
-answered-requires c = left-sound (goal.at.answered-requires c).After-start-started
+answered-requires c =
+    let left = sym (account-told c.start-outcome.result c.start-outcome.new.account) ∙ ap (λ (o : AfterStart). o.answer.account) c.start-outcome.ensures in
+    rw left (start-stays c.whole.ensures c.requires _ _)
 
-pub answered-requires-in-Written : goal.answered-requires-in-Written
-answered-requires-in-Written c = left-sound (goal.at.answered-requires-in-Written c).After-start-started
-
-pub returns-in-Unwritten : goal.returns-in-Unwritten
+pub returns : goal.returns
 unfolding start_answer
-returns-in-Unwritten c = rw (c.answered.ensures, c.number.ensures, ← c.start-started.ensures, c.in-Unwritten.is)
-
-pub returns-in-Written : goal.returns-in-Written
-unfolding start_answer
-returns-in-Written c = rw (c.answered-in-Written.ensures, c.number-in-Written.ensures, ← c.start-started.ensures, c.in-Written.is)
+returns c = rw (c.answered.ensures, ← c.start-outcome.ensures, tail-told, verdict-told, account-told)
