@@ -1,6 +1,7 @@
 -- Document 01, "The bench program": what each hand has, the last handle of each id, and what the records that need no ring answer. A line is the
 -- record's number and kind, then the number and the value of its answer, then what each hand has.
-use Rattle.std.specs.Prelude.{ℕ, ◌+◌, ◌-◌, List, get_or, set}
+use Rattle.std.specs.Prelude.{ℕ, ◌+◌, ◌-◌, List, get_or, set, Some, None}
+use Rattle.std.specs.declared.option.Option.{Option}
 use Rattle.limits.specs.Limits.{SLOTS}
 use Rattle.laws.specs.Test.{pick}
 use Rattle.laws.specs.Occurs.{sum_to}
@@ -11,7 +12,7 @@ use Rattle.rules.specs.Numbers.{number, on_verdict}
 use Rattle.rules.specs.Account.{waiting}
 use Rattle.rules.specs.Packets.{fresh_call, take_call, release_call}
 use Rattle.records.specs.declared.Record.{Record}
-use Rattle.records.specs.declared.Record.TheVariants.{Fresh, Start, Take, Release, Done, Frame, Receive, Send, Bad}
+use Rattle.records.specs.declared.Record.TheVariants.{Fresh, Card, Call}
 use Rattle.tally.specs.declared.Tally.{Tally}
 use Rattle.tally.specs.declared.Answer.{Answer}
 
@@ -63,16 +64,11 @@ fresh_answer entries size sends =
     answered_as (number (fresh_call POOL entries size 1 sends).verdict) 0 (fresh_call POOL entries size 1 sends).account
 
 -- a record that is no fresh asks for no entries
-abbrev pub fresh_rule : Record → Answer
-fresh_rule (Fresh entries size sends) = fresh_answer entries size sends
-fresh_rule Start = fresh_answer 0 0 0
-fresh_rule (Take size) = fresh_answer 0 0 0
-fresh_rule (Release id) = fresh_answer 0 0 0
-fresh_rule (Done queue slot) = fresh_answer 0 0 0
-fresh_rule (Frame slot status len) = fresh_answer 0 0 0
-fresh_rule (Receive n) = fresh_answer 0 0 0
-fresh_rule (Send queue count) = fresh_answer 0 0 0
-fresh_rule Bad = fresh_answer 0 0 0
+abbrev pub fresh_rule : Option Record → Answer
+fresh_rule (Some (Fresh entries size sends)) = fresh_answer entries size sends
+fresh_rule (Some (Card event)) = fresh_answer 0 0 0
+fresh_rule (Some (Call call)) = fresh_answer 0 0 0
+fresh_rule None = fresh_answer 0 0 0
 
 -- ---- records that need no ring
 

@@ -7,11 +7,10 @@ ghost use Rattle.std.specs.Prelude.{◌≡◌, true, ◌*◌, ◌≤◌, length}
 ghost use Rattle.limits.specs.Limits.{ENTRIES, SENDS, SLOTS};
 ghost use Rattle.laws.specs.Test.{pick};
 ghost use Rattle.rules.specs.Sound.{sound, queues_placed};
-ghost use Rattle.tally.specs.Tally.{memory_as, last_handle, pending_of, tally_of, answered_as, value_if, fresh_answer, fresh_rule, take_answered, take_answer, release_answer};
+ghost use Rattle.tally.specs.Tally.{memory_as, last_handle, pending_of, tally_of, answered_as, value_if, fresh_answer, take_answered, take_answer, release_answer};
 
 use limits::{ENTRIES, SENDS, SLOTS};
 use pool::Handle;
-use records::Record;
 use rules::{Account, Verdict};
 
 // The pool number of the bench's account.
@@ -111,24 +110,6 @@ pub fn fresh(entries: usize, size: usize, sends: usize) -> Answer
             account,
         },
         Verdict::Done => answered(0, 0, account),
-    }
-}
-
-// The fresh account of a record. A record that is no fresh asks for no entries, which is refused.
-pub fn fresh_from(what: Record) -> Answer
-    ensures answer { result ≡ fresh_rule what }
-    ensures keeps { result.number ≡ 0 → sound result.account ≡ true }
-{
-    match what {
-        Record::Fresh(entries, size, sends) => fresh(entries, size, sends),
-        Record::Start => fresh(0, 0, 0),
-        Record::Take(_) => fresh(0, 0, 0),
-        Record::Release(_) => fresh(0, 0, 0),
-        Record::Done(_, _) => fresh(0, 0, 0),
-        Record::Frame(_, _, _) => fresh(0, 0, 0),
-        Record::Receive(_) => fresh(0, 0, 0),
-        Record::Send(_, _) => fresh(0, 0, 0),
-        Record::Bad => fresh(0, 0, 0),
     }
 }
 
