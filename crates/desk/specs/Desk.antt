@@ -1,5 +1,5 @@
 -- What the contracts of `desk` cite: which bytes of the input are held, and the line of a record that is cut short.
-use Rattle.std.specs.Prelude.{◌≡◌, ℕ, ◌-◌, Bool, not, List, [], length, take, drop, nat_lt, is_some}
+use Rattle.std.specs.Prelude.{◌≡◌, ℕ, ◌-◌, Bool, not, List, [], take, drop, nat_lt, is_some}
 use Rattle.laws.specs.Test.{pick, both}
 use Rattle.records.specs.Records.{end_of}
 use Rattle.lines.specs.Lines.{bad_text}
