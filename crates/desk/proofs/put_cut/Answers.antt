@@ -10,12 +10,12 @@ unfolding is_cut
 returns-then-ended c =
     let all = length c.args.unread.now in
     elim c.then-ended.branch [
-      then-ended-via-then-ended w ↦ (omega arith, rw w.if-ended.true)
-    | then-ended-via-else-ended+then-is_empty w ↦
-        (omega arith, rw (w.if-ended.false, le-ltb 0 all (omega (arith, eqb-true all 0 (sym w.is_empty.ensures ∙ w.if-is_empty.true)))))
-    | then-ended-via-else-ended+else-is_empty+then-is_some w ↦
-        let some = eqb-false all 0 (sym w.is_empty.ensures ∙ w.if-is_empty.false) in
-        (omega arith, rw (w.if-ended.false, lt-ltb 0 all (omega (arith, some)), ← w.end_of.ensures.end, sym w.is_some.ensures ∙ w.if-is_some.true))
+      | then-ended-via-then-ended w ↦ (omega arith, rw w.if-ended.true)
+      | then-ended-via-else-ended+then-is_empty w ↦
+          (omega arith, rw (w.if-ended.false, le-ltb 0 all (omega (arith, eqb-true all 0 (sym w.is_empty.ensures ∙ w.if-is_empty.true)))))
+      | then-ended-via-else-ended+else-is_empty+then-is_some w ↦
+          let some = eqb-false all 0 (sym w.is_empty.ensures ∙ w.if-is_empty.false) in
+          (omega arith, rw (w.if-ended.false, lt-ltb 0 all (omega (arith, some)), ← w.end_of.ensures.end, sym w.is_some.ensures ∙ w.if-is_some.true))
     ]
 
 pub returns : goal.returns
