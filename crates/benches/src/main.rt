@@ -2,43 +2,23 @@
 
 #![tactic(auto)]
 
-ghost use Rattle.std.specs.Prelude.{◌≤◌, ◌<◌};
-
 use std::io::{Read, Result, Write};
 
 // The most streams, and the bytes that are dropped at once.
 const STREAMS: usize = 100000;
 
-const DROPPED: u64 = 4096;
-
-// Reads so many bytes of the input and drops them. Answers how many there were.
-fn drop_some<R: Read>(reader: &mut R, asked: usize) -> Result<usize>
-    requires { asked ≤ 4096 }
-{
-    let mut buffer = [0u8; DROPPED as usize];
-    reading::read_full(reader, &mut buffer[..asked])
-}
-
-// How many of some bytes are dropped at once.
-fn at_once(left: u64) -> usize
-    requires { 0 < left }
-    ensures { (0 < result) × (result ≤ left) × (result ≤ 4096) }
-{
-    if left < DROPPED {
-        return left as usize;
-    }
-    DROPPED as usize
-}
+const DROPPED: usize = 4096;
 
 // Drops so many bytes of the input, or as many as there are.
 fn skip<R: Read>(reader: &mut R, count: u64) -> Result<()> {
+    let mut buffer = [0u8; DROPPED];
     let mut left = count;
     while 0 < left {
-        let asked = at_once(left);
-        if drop_some(reader, asked)? < asked {
+        let asked = left.min(DROPPED as u64) as usize;
+        if reading::read_full(reader, &mut buffer[..asked])? < asked {
             return Ok(());
         }
-        left = left - asked as u64;
+        left -= asked as u64;
     }
     Ok(())
 }
@@ -52,24 +32,23 @@ fn serve_one<R: Read, W: Write>(reader: &mut R, writer: &mut W, size: u64) -> Re
     writer.write_all(b"--\n")
 }
 
-// Serves the next stream. Answers whether there was one.
-fn next<R: Read, W: Write>(reader: &mut R, writer: &mut W) -> Result<bool> {
-    let mut head = [0u8; 4];
-    let got = reading::read_full(reader, &mut head)?;
-    if got < 4 {
-        return Ok(false);
+// The size of the next stream, if there is one.
+fn next_size<R: Read>(reader: &mut R) -> Result<Option<u64>> {
+    let mut head = [0; 4];
+    if reading::read_full(reader, &mut head)? < head.len() {
+        return Ok(None);
     }
-    serve_one(reader, writer, words::read32(&head, 0) as u64)?;
-    Ok(true)
+    Ok(Some(u32::from_le_bytes(head) as u64))
 }
 
 fn main(rt: HostRuntime) -> Result<()> {
     let mut reader = rt.stdin();
     let mut writer = rt.stdout();
     for _ in 0..STREAMS {
-        if !next(&mut reader, &mut writer)? {
-            return Ok(());
-        }
+        let Some(size) = next_size(&mut reader)? else {
+            break;
+        };
+        serve_one(&mut reader, &mut writer, size)?;
     }
     Ok(())
 }

@@ -1,6 +1,7 @@
 -- Document 01, "The bench program": the bytes of a line. "A line is: record number, kind, table number, value, then free, receive, all send,
 -- out", each in decimal, with a blank between; a malformed record's line is the word `bad` and the record's number.
-use Rattle.std.specs.Prelude.{ℕ, zero, suc, ◌+◌, ◌/◌, Bool, List, [], ◌∷◌, ◌++◌, ltb}
+use Rattle.std.specs.Prelude.{ℕ, zero, suc, ◌+◌, ◌/◌, Bool, true, List, [], ◌∷◌, ◌++◌, ltb, Some, None}
+use Rattle.std.specs.declared.option.Option.{Option}
 use Rattle.io.specs.Digits.{last_digits}
 use Rattle.laws.specs.Test.{pick}
 use Rattle.tally.specs.declared.Tally.{Tally}
@@ -51,3 +52,8 @@ bad_text count = (98 ∷ 97 ∷ 100 ∷ BLANK ∷ []) ++ item count END
 
 abbrev pub text_of : ℕ → Bool → Line → List ℕ
 text_of count good l = pick good (good_text count l) (bad_text count)
+
+-- the line of a good record, or of a bad one
+abbrev pub shown_text : ℕ → Option Line → List ℕ
+shown_text count (Some l) = text_of count true l
+shown_text count None = bad_text count

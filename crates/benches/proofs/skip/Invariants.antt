@@ -1,5 +1,0 @@
--- `benches::skip` is safe and ends: the measure is the bytes that are left. Assumes nothing.
-use Rattle.benches.proofs.skip.Given as goal
-
-abbrev pub decreases-loop-left : goal.decreases-loop-left
-decreases-loop-left g l = l.left

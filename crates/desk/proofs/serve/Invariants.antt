@@ -1,0 +1,10 @@
+-- `desk::serve` is safe and ends: between two reads the account is sound, and the measure is the records that can still be counted.
+use Rattle.std.proofs.Common.{◌≡◌, ◌-◌, ◌^◌, true}
+use Rattle.rules.specs.Sound.{sound}
+use Rattle.desk.proofs.serve.Given as goal
+
+abbrev pub invariant-loop-run : goal.invariant-loop-run
+invariant-loop-run g l = sound l.run.account ≡ true
+
+abbrev pub decreases-loop-run : goal.decreases-loop-run
+decreases-loop-run g l = 2 ^ 64 - l.count
