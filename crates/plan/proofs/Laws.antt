@@ -130,9 +130,6 @@ module _ (i : ℕ) (h : i < PARTS) where
   part-short : length (items_of i) ≤ TEMPLATES
   part-short = (fine-parts (get_or parts i no_made) fine-at).0
 
-  pub named : (j : ℕ) → j < length (items_of i) → row_of (get_or (items_of i) j no_template) < ROWS
-  named j k = (fine-item (get_or parts i no_made) fine-at j k).0
-
 -- no part is made more often than there may be queues
 by-kind-few : (kind : ℕ) (interrupts : Option ℕ) (n : ℕ) → n ≤ QUEUES → by_kind kind interrupts n ≤ QUEUES
 by-kind-few kind None n h = omega arith

@@ -26,7 +26,8 @@ pub const BUFFERS: usize = 8;
 pub const HIGHEST_PLACE: usize = 11;
 
 // The numbers of a set-up: the map's length, the queues each way, the reads of a wait, the kind of interrupt that is asked for (None: no
-// interrupts), their throttle rate, and a ring's address for each queue, receive first.
+// interrupts), their throttle rate, and a ring's address for each queue, receive first, in as much room as the most queues need: the core's
+// memory is fixed. `Ranged` is asked for and is no invariant of the type: a caller's state holds any numbers, and a step refuses it with 1.
 #[derive(Clone, Copy)]
 pub struct Setup {
     pub map: u64,
