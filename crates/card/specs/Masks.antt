@@ -3,6 +3,8 @@
 use Rattle.std.specs.Prelude.{ℕ, ◌+◌, ◌-◌, ◌*◌, ◌%◌, ◌^◌, List, [], ◌∷◌, eqb}
 use Rattle.std.specs.Int.Bits.{bit_and, bit_or}
 use Rattle.laws.specs.Test.{pick}
+use Rattle.card.specs.declared.Direction.{Direction}
+use Rattle.card.specs.declared.Direction.TheVariants.{Receive, Send}
 
 -- a bit, the bits from one to another, and a number from a bit on
 abbrev pub bit : ℕ → ℕ
@@ -217,6 +219,10 @@ changed value clear set = bit_or (bit_and value (2 ^ 32 - 1 - clear)) set
 -- a queue's bit in the interrupt masks
 abbrev pub queue_bit : ℕ → ℕ
 queue_bit queue = shifted 1 (queue % 32)
+
+abbrev pub direction_number : Direction → ℕ
+direction_number Receive = 0
+direction_number Send = 1
 
 -- the place of a queue's byte in its IVAR, direction 0 for receive and 1 for send
 abbrev pub vector_shift : ℕ → ℕ → ℕ

@@ -6,7 +6,7 @@
 ghost use Rattle.std.specs.Prelude.{◌≡◌, ◌<◌, ◌≤◌};
 ghost use Rattle.limits.specs.Limits.{QUEUES};
 ghost use Rattle.card.specs.Registers.{ROWS, register_row, entry, address};
-ghost use Rattle.card.specs.Masks.{masks, changed, queue_bit, vector_shift, vector_clear, vector_set, link_speed};
+ghost use Rattle.card.specs.Masks.{masks, changed, queue_bit, direction_number, vector_shift, vector_clear, vector_set, link_speed};
 
 // ---- the table
 
@@ -282,26 +282,30 @@ pub fn queue_bit(queue: usize) -> u32
     1 << (queue % 32)
 }
 
+// The two bytes of a queue in its IVAR.
+#[derive(Clone, Copy, PartialEq, Eq, Debug)]
+pub enum Direction {
+    Receive,
+    Send,
+}
+
 // The place of a queue's byte in its IVAR.
-fn vector_shift(direction: usize, queue: usize) -> usize
-    requires { direction ≤ 1 }
-    ensures { result ≡ vector_shift direction queue }
+fn vector_shift(direction: Direction, queue: usize) -> usize
+    ensures { result ≡ vector_shift (direction_number direction) queue }
 {
-    16 * (queue % 2) + 8 * direction
+    16 * (queue % 2) + 8 * (direction as usize)
 }
 
 // What a queue's IVAR loses.
-pub fn vector_clear(direction: usize, queue: usize) -> u32
-    requires { direction ≤ 1 }
-    ensures { result ≡ vector_clear direction queue }
+pub fn vector_clear(direction: Direction, queue: usize) -> u32
+    ensures { result ≡ vector_clear (direction_number direction) queue }
 {
     IVAR_BYTE << vector_shift(direction, queue)
 }
 
 // What it gains.
-pub fn vector_set(direction: usize, queue: usize, vector: u32) -> u32
-    requires { direction ≤ 1 }
-    ensures { result ≡ vector_set direction queue vector }
+pub fn vector_set(direction: Direction, queue: usize, vector: u32) -> u32
+    ensures { result ≡ vector_set (direction_number direction) queue vector }
 {
     (vector | IVAR_VALID) << vector_shift(direction, queue)
 }

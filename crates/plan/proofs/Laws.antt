@@ -22,7 +22,9 @@ use Rattle.parts.specs.declared.Template.TheVariants.{Write, Read, Change, WaitS
 use Rattle.parts.specs.declared.Times.{Times}
 use Rattle.parts.specs.declared.Times.TheVariants.{Once, Buffer, Receive, Send, MsiQueue, MsixQueue}
 use Rattle.parts.specs.Parts.{Made, parts, row_of, row_for, part_rows, items_of, no_part, no_template, no_made, PARTS, TEMPLATES}
-use Rattle.parts.proofs.Lists.{at_right, at_map, drop_all, all, all_cons, at_all}
+use Rattle.std.proofs.lemmas.List.{drop_all, get_or-map}
+use Rattle.std.proofs.Math.Seq.{get_or-append_right}
+use Rattle.parts.proofs.Lists.{all, all_cons, at_all}
 use Rattle.plan.specs.declared.Setup.{Setup}
 use Rattle.plan.specs.declared.Item.{Item}
 use Rattle.plan.specs.declared.Item.TheVariants.{End}
@@ -47,7 +49,7 @@ module _ (f : ℕ → List Item) (len : ℕ) (even : (q : ℕ) → length (f q) 
       by-case (no h) before =
           let e : q ≡ n = omega (arith, h) in
           rw e
-          (at_right (each n f) (f n) (n * len + r) End (omega (arith, length-each n))
+          (get_or-append_right (each n f) (f n) (n * len + r) End (omega (arith, length-each n))
           ∙ ap (λ k. get_or (f n) k End) (omega (arith, length-each n)))
 
 -- a product that is above something has no factor of 0
@@ -70,7 +72,7 @@ module _ (s : Setup) (p : Made) where
       let some = some-factor many len k h in
       ap (λ x. get_or (made s p) x End) (sym (div-add-mod' k len))
       ∙ at_each (for_queue s p.items) len (λ q. length-map p.items (filled s q)) many (k / len) (k % len) ((div-lt_iff_lt-mul some).1 h) (mod-lt k some)
-      ∙ at_map (filled s (k / len)) p.items (k % len) d End (mod-lt k some)
+      ∙ get_or-map (filled s (k / len)) p.items (k % len) d End (mod-lt k some)
 
 -- ---- a test over all the parts
 
@@ -128,9 +130,6 @@ module _ (i : ℕ) (h : i < PARTS) where
   part-short : length (items_of i) ≤ TEMPLATES
   part-short = (fine-parts (get_or parts i no_made) fine-at).0
 
-  pub named : (j : ℕ) → j < length (items_of i) → row_of (get_or (items_of i) j no_template) < ROWS
-  named j k = (fine-item (get_or parts i no_made) fine-at j k).0
-
 -- no part is made more often than there may be queues
 by-kind-few : (kind : ℕ) (interrupts : Option ℕ) (n : ℕ) → n ≤ QUEUES → by_kind kind interrupts n ≤ QUEUES
 by-kind-few kind None n h = omega arith
@@ -162,7 +161,7 @@ unfolding sequence
 here-start s place = record { here = refl }
 
 pub here_end : (s : Setup) (place left i : ℕ) → Here s place left i → PARTS ≤ i → get_or (sequence s) place End ≡ End
-here_end s place left i at h = at.here ∙ rw (drop_all parts i (omega (arith, part_count)))
+here_end s place left i at h = at.here ∙ rw (drop_all i parts (omega (arith, part_count)))
 
 module _ (s : Setup) (place left i : ℕ) (at : Here s place left i) (h : i < length parts) where
   abbrev now : Made
@@ -182,7 +181,7 @@ module _ (s : Setup) (place left i : ℕ) (at : Here s place left i) (h : i < le
   here-next k =
       record {
         here = next-part
-            ∙ at_right (made s now) _ left End (omega (arith, length-made s now))
+            ∙ get_or-append_right (made s now) _ left End (omega (arith, length-made s now))
             ∙ rw (length-made s now, add-one);
       }
 
@@ -210,7 +209,7 @@ pub count-end : (s : Setup) (sum i : ℕ) → Counted s.receives s.sends s.inter
     → (sum ≡ length (sequence s)) × (sum ≤ ITEMS)
 unfolding sequence
 count-end s sum i c h = (
-  omega (arith, rw (drop_all parts i (omega (arith, part_count))) at c.counted, length-joined s parts),
+  omega (arith, rw (drop_all i parts (omega (arith, part_count))) at c.counted, length-joined s parts),
   omega (arith, c.small, c.within),
 )
 
@@ -228,7 +227,7 @@ module _ {receives sends : ℕ} {interrupts : Option ℕ} {i n : ℕ} {row : Par
   inside = omega (arith, part_count, turn.within)
 
   row_is : row ≡ row_for (get_or parts i no_made)
-  row_is = turn.is ∙ at_map row_for parts i no_made no_part inside
+  row_is = turn.is ∙ get_or-map row_for parts i no_made no_part inside
 
   row_len : row.len ≡ length (items_of i)
   row_len = ap (λ r. r.len) row_is
@@ -311,7 +310,7 @@ module _ (s : Setup) (g : Ranged s) (P : Item → Type 0)
           → P (get_or (made s p ++ joined s ps) k End)
       by-case (yes h') rest = rw (get_or-append (made s p) (joined s ps) End k h') (of-made p (all_cons fine p ps t).0 k h')
       by-case (no h') rest =
-          rw (at_right (made s p) (joined s ps) k End (omega (arith, h')))
+          rw (get_or-append_right (made s p) (joined s ps) k End (omega (arith, h')))
           (rest (k - length (made s p)) (omega (arith, h', simp length-append at h)))
 
   pub of-inside : (k : ℕ) → k < length (sequence s) → P (get_or (sequence s) k End)

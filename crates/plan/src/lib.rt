@@ -7,6 +7,7 @@ ghost use Rattle.limits.specs.Limits.{QUEUES};
 ghost use Rattle.laws.specs.Test.{pick};
 ghost use Rattle.plan.specs.Sequence.{Ranged, by_kind, times_for, value_of, filled, sequence, ITEMS};
 
+use card::Direction;
 use parts::{PARTS, Part, Template, Times, Value, part_at, template_at};
 
 // The most rings: a receive ring and a send ring for each queue.
@@ -25,7 +26,8 @@ pub const BUFFERS: usize = 8;
 pub const HIGHEST_PLACE: usize = 11;
 
 // The numbers of a set-up: the map's length, the queues each way, the reads of a wait, the kind of interrupt that is asked for (None: no
-// interrupts), their throttle rate, and a ring's address for each queue, receive first.
+// interrupts), their throttle rate, and a ring's address for each queue, receive first, in as much room as the most queues need: the core's
+// memory is fixed. `Ranged` is asked for and is no invariant of the type: a caller's state holds any numbers, and a step refuses it with 1.
 #[derive(Clone, Copy)]
 pub struct Setup {
     pub map: u64,
@@ -37,7 +39,8 @@ pub struct Setup {
     pub rings: [u64; RINGS],
 }
 
-// An item of the sequence: registers are addresses.
+// An item of the sequence: registers are addresses. A type beside parts::Template, with its End, since the theorem past-link of startup_laws
+// and startup's `is_end` name End as an item, and an item has numbers where a template has a register and a Value.
 #[derive(Clone, Copy, PartialEq, Eq, Debug)]
 pub enum Item {
     End,
@@ -99,9 +102,9 @@ fn word(setup: &Setup, queue: usize, v: Value) -> u32
         Value::SendHigh => halves(setup.rings[setup.receives + queue]).1,
         Value::Rate => setup.rate,
         Value::QueueBit => card::queue_bit(queue),
-        Value::VectorClear => card::vector_clear(0, queue),
-        Value::VectorZero => card::vector_set(0, queue, 0),
-        Value::VectorQueue => card::vector_set(0, queue, queue as u32),
+        Value::VectorClear => card::vector_clear(Direction::Receive, queue),
+        Value::VectorZero => card::vector_set(Direction::Receive, queue, 0),
+        Value::VectorQueue => card::vector_set(Direction::Receive, queue, queue as u32),
     }
 }
 

@@ -21,7 +21,7 @@ pub returns-in_default : goal.returns-in_default
 unfolding address
 returns-in_default c =
     elim c.in_default.branch [
-      in_default-via-in-SRRCTL+else-queue-ge-LOW_QUEUES w ↦ rw w.in-SRRCTL.is (simp (lt-ltb _ _ w.if-queue-ge-LOW_QUEUES.false) (rw w.in-SRRCTL.is at c.entry-in_default.ensures))
-    | in_default-via-in-DCA_RXCTRL+else-queue-ge-LOW_QUEUES-2 w ↦ rw w.in-DCA_RXCTRL.is (simp (lt-ltb _ _ w.if-queue-ge-LOW_QUEUES-2.false) (rw w.in-DCA_RXCTRL.is at c.entry-in_default.ensures))
-    | in_default-via-in_default w ↦ simp (apart _ _ w.in_default.not-IVAR, apart _ _ w.in_default.not-SRRCTL, apart _ _ w.in_default.not-DCA_RXCTRL) c.entry-in_default.ensures
+      | in_default-via-in-SRRCTL+else-queue-ge-LOW_QUEUES w ↦ rw w.in-SRRCTL.is (simp (lt-ltb _ _ w.if-queue-ge-LOW_QUEUES.false) (rw w.in-SRRCTL.is at c.entry-in_default.ensures))
+      | in_default-via-in-DCA_RXCTRL+else-queue-ge-LOW_QUEUES-2 w ↦ rw w.in-DCA_RXCTRL.is (simp (lt-ltb _ _ w.if-queue-ge-LOW_QUEUES-2.false) (rw w.in-DCA_RXCTRL.is at c.entry-in_default.ensures))
+      | in_default-via-in_default w ↦ simp (apart _ _ w.in_default.not-IVAR, apart _ _ w.in_default.not-SRRCTL, apart _ _ w.in_default.not-DCA_RXCTRL) c.entry-in_default.ensures
     ]
