@@ -22,7 +22,7 @@ pub const LINK_ACTIONS: usize = 201;
 pub const SIGNALLED: usize = 16;
 
 // What the host does next.
-#[derive(Clone, Copy)]
+#[derive(Clone, Copy, PartialEq, Eq, Debug)]
 pub enum Action {
     Read(u32),
     Write(u32, u32),
