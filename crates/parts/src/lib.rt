@@ -255,37 +255,38 @@ const WAIT_FOR_LINK: [Template; 1] = [Template::Link(Register::LINKS)];
 
 // ---- the parts
 
-// The sequence: how often a part is made, and its templates.
-#[tactic(auto, unfolding(crate::specs::Parts::parts))]
+// The sequence: how often each part is made, and its templates.
+const SEQUENCE: [(Times, &[Template]); PARTS] = [
+    (Times::Once, &DISABLE_INTERRUPTS),
+    (Times::Once, &RESET),
+    (Times::Once, &DISABLE_INTERRUPTS),
+    (Times::Once, &READY),
+    (Times::Once, &INIT_LINK),
+    (Times::Once, &RESET_STATS),
+    (Times::Once, &RECEIVE_OFF),
+    (Times::Buffer, &RECEIVE_BUFFERS),
+    (Times::Once, &RECEIVE_OFFLOAD),
+    (Times::Receive, &RECEIVE_QUEUE),
+    (Times::Once, &RECEIVE_SNOOP),
+    (Times::Receive, &RECEIVE_DCA),
+    (Times::Once, &RECEIVE_ON),
+    (Times::Once, &SEND_OFFLOAD),
+    (Times::Buffer, &SEND_BUFFERS),
+    (Times::Once, &SEND_ARBITER),
+    (Times::Send, &SEND_QUEUE),
+    (Times::Once, &SEND_ON),
+    (Times::Receive, &START_RECEIVE_QUEUE),
+    (Times::Send, &START_SEND_QUEUE),
+    (Times::MsiQueue, &ENABLE_MSI),
+    (Times::MsixQueue, &ENABLE_MSIX),
+    (Times::Once, &WAIT_FOR_LINK),
+];
+
 fn row(part: usize) -> (Times, &'static [Template])
     requires { part < PARTS }
     ensures { (result.0 ≡ (get_or parts part no_made).times) × (result.1.now ≡ items_of part) }
 {
-    match part {
-        0 => (Times::Once, &DISABLE_INTERRUPTS),
-        1 => (Times::Once, &RESET),
-        2 => (Times::Once, &DISABLE_INTERRUPTS),
-        3 => (Times::Once, &READY),
-        4 => (Times::Once, &INIT_LINK),
-        5 => (Times::Once, &RESET_STATS),
-        6 => (Times::Once, &RECEIVE_OFF),
-        7 => (Times::Buffer, &RECEIVE_BUFFERS),
-        8 => (Times::Once, &RECEIVE_OFFLOAD),
-        9 => (Times::Receive, &RECEIVE_QUEUE),
-        10 => (Times::Once, &RECEIVE_SNOOP),
-        11 => (Times::Receive, &RECEIVE_DCA),
-        12 => (Times::Once, &RECEIVE_ON),
-        13 => (Times::Once, &SEND_OFFLOAD),
-        14 => (Times::Buffer, &SEND_BUFFERS),
-        15 => (Times::Once, &SEND_ARBITER),
-        16 => (Times::Send, &SEND_QUEUE),
-        17 => (Times::Once, &SEND_ON),
-        18 => (Times::Receive, &START_RECEIVE_QUEUE),
-        19 => (Times::Send, &START_SEND_QUEUE),
-        20 => (Times::MsiQueue, &ENABLE_MSI),
-        21 => (Times::MsixQueue, &ENABLE_MSIX),
-        _ => (Times::Once, &WAIT_FOR_LINK),
-    }
+    SEQUENCE[part]
 }
 
 // A part: how often it is made, and of how many templates.
