@@ -13,7 +13,7 @@ ghost use Rattle.startup.specs.Machine.{SIGNALLED};
 ghost use Rattle.service.specs.Mac.{mac_of, low_word, high_word};
 ghost use Rattle.service.specs.Actions.{guarded, counters_call, link_call, mac_call, set_mac_call, promisc_call, msi_actions, msix_actions, disable_actions, enable_call, disable_call};
 
-use card::Register;
+use card::{Direction, Register};
 use refusals::Refusal;
 use startup::Action;
 
@@ -160,8 +160,8 @@ fn set_vector(queue: usize, vector: usize, value: u32) -> Action
     requires { (queue < SIGNALLED) × (vector < SIGNALLED) }
     ensures { result ≡ action.Write (address IVAR queue) (changed value (vector_clear 0 queue) (vector_set 0 queue vector)) }
 {
-    let clear = card::vector_clear(0, queue);
-    let set = card::vector_set(0, queue, vector as u32);
+    let clear = card::vector_clear(Direction::Receive, queue);
+    let set = card::vector_set(Direction::Receive, queue, vector as u32);
     let word = card::changed_word(value, clear, set);
     Action::Write(Register::IVAR.address(queue), word)
 }

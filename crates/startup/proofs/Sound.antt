@@ -1,6 +1,6 @@
 -- Soundness as a test and as facts, both ways: each test means its fact, in order. And what the machine's functions need of it.
 -- Assumes nothing.
-use Prim.Native.Nat.{ℕ, ◌*◌, ◌≤◌, ◌<◌}
+use Prim.Native.Nat.{ℕ, ◌≤◌, ◌<◌}
 use mathlib.Core.Path.{◌≡◌, refl}
 use mathlib.Core.Bool.{Bool, true, false, not}
 use native.Mathlib.Omega.{arith}
@@ -9,12 +9,11 @@ use lib.Dec.{eqb, leb}
 use lib.ListN.{length}
 use Rattle.limits.specs.Limits.{QUEUES, TRIES}
 use Rattle.laws.specs.Test.{pick, both, either}
-use Rattle.laws.proofs.Test.{both_left, both_right}
-use Rattle.plan.specs.Sequence.{RINGS, Ranged, sequence, ITEMS}
+use Rattle.laws.proofs.Test.{both_left, both_right, either_true}
+use Rattle.plan.specs.Sequence.{Ranged, sequence, ITEMS}
 use Rattle.plan.proofs.Laws.{length-few}
 use Rattle.plan.specs.declared.Setup.{Setup}
 use Rattle.plan.specs.declared.Item.{Item}
-use Rattle.plan.specs.declared.Item.TheVariants.{End, Write, Read, Change, WaitSet, WaitClear, Pause, Link}
 use Rattle.startup.specs.declared.State.{State}
 use Rattle.startup.specs.Machine.{WAITED, OUTSIDE, cost, waits, is_end, reachable, here, in_range, kind_ok, setup_ok, all_passed, kept_ok, sound_of, Kept, first, done, begun, failed, outside, Sound, Good}
 use Rattle.startup.proofs.Map.{passed-at, passed-all}
@@ -55,14 +54,10 @@ module _ (map w : ℕ) (i : Item) (place made kept : ℕ) where
           outside (eqb-true _ _ e) (eqb-true _ _ (both_left (eqb made 0) _ h)) (not-true _ (both_right (eqb made 0) _ h))
       by-eleven false e h = by_ten (eqb kept WAITED) refl h
 
-  either_end : (b : Bool) → either b true ≡ true
-  either_end true = refl
-  either_end false = refl
-
   pub facts-kept : Kept map w i place made kept → kept_ok map w i place made kept ≡ true
   unfolding kept_ok
   facts-kept (first k m p) = rw (k, m, p)
-  facts-kept (done k m e) = rw (k, m, e) (either_end (eqb place 0))
+  facts-kept (done k m e) = rw (k, m, e) (either_true (eqb place 0))
   facts-kept (begun k s h r) = rw k (simp (ne_eqb made 0 (λ z. omega arith), r, le-leb _ _ h))
   facts-kept (failed k m a r) = rw k (simp (a, r, eq-eqb _ _ m))
   facts-kept (outside k m r) = rw (k, m) (simp r)
@@ -93,9 +88,6 @@ module _ (s : Setup) (ok : setup_ok s ≡ true) where
   pub setup-kind : kind_ok s.interrupts s.receives ≡ true
   unfolding setup_ok
   setup-kind = both_right (in_range s.receives s.sends s.tries) _ ok
-
-  pub setup-ranged : length s.rings ≡ RINGS → Ranged s
-  setup-ranged whole = record { receives = setup-range.0; sends = setup-range.1; rings = whole }
 
 -- ---- a state
 
@@ -134,16 +126,6 @@ module _ (s : State) where
 
 -- ---- what the functions need
 
-cost-few : (w : ℕ) (i : Item) → w ≤ TRIES → cost w i < 2 * TRIES
-cost-few w End h = omega arith
-cost-few w (Write register x) h = omega arith
-cost-few w (Read register) h = omega arith
-cost-few w (Change register clear set) h = omega arith
-cost-few w (WaitSet register mask) h = omega arith
-cost-few w (WaitClear register mask) h = omega arith
-cost-few w (Pause ms) h = omega arith
-cost-few w (Link register) h = omega arith
-
 -- at most all of the actions of an item were made
 pub made-most : (map w : ℕ) (i : Item) (place made kept : ℕ) → Kept map w i place made kept → made ≤ cost w i
 made-most map w i place made kept (first k m p) = omega (arith, m)
@@ -156,11 +138,5 @@ module _ {s : State} (g : Good s) where
   pub good-ranged : Ranged s.setup
   good-ranged = record { receives = g.sound.receives; sends = g.sound.sends; rings = g.rings }
 
-  pub good-tries : (0 < s.setup.tries) × (s.setup.tries ≤ TRIES)
-  good-tries = (g.sound.some, g.sound.few)
-
   pub good-place : s.place ≤ ITEMS
   good-place = omega (arith, g.sound.place, length-few s.setup good-ranged)
-
-  pub good-made : s.made < 2 * TRIES
-  good-made = omega (arith, made-most _ _ _ _ _ _ g.sound.kept, cost-few s.setup.tries (here s) g.sound.few)

@@ -22,7 +22,7 @@ pub const LINK_ACTIONS: usize = 201;
 pub const SIGNALLED: usize = 16;
 
 // What the host does next.
-#[derive(Clone, Copy)]
+#[derive(Clone, Copy, PartialEq, Eq, Debug)]
 pub enum Action {
     Read(u32),
     Write(u32, u32),
@@ -105,13 +105,13 @@ fn next_look(register: u32, made: usize) -> Action
     Action::Pause(WAIT_MS)
 }
 
-// A wait's: a read or a pause, or 10 if that was the last read.
+// A wait's: a read or a pause, or 10 after its last read.
 #[tactic(auto, unfolding(crate::specs::Machine::waiting, crate::specs::Machine::looking))]
 fn next_wait(tries: usize, register: u32, made: usize) -> Action
-    requires { (0 < tries) × (tries ≤ TRIES) }
     ensures { result ≡ waiting tries register made }
 {
-    if made == 2 * tries - 1 {
+    let reads = made / 2 + 1;
+    if made % 2 == 1 && reads == tries {
         return Action::Refused(Refusal::Waited(register));
     }
     next_look(register, made)
@@ -130,7 +130,6 @@ fn next_change(register: u32, clear: u32, set: u32, made: usize, value: u32) -> 
 
 // An item's next action, if its register is in the map.
 fn next_action(tries: usize, item: Item, made: usize, value: u32) -> Action
-    requires { (0 < tries) × (tries ≤ TRIES) }
     ensures { result ≡ intended tries item made value }
 {
     match item {
@@ -193,35 +192,35 @@ fn passed(setup: Setup, place: usize) -> bool
 
 // An item's next action, or 11 if its register is not in the map.
 #[tactic(auto, unfolding(crate::specs::Machine::answer, crate::specs::Machine::reachable))]
-fn answer_of(map: u64, tries: usize, item: Item, made: usize, value: u32) -> Action
-    requires { (0 < tries) × (tries ≤ TRIES) }
-    ensures { result ≡ answer map tries item made value }
+fn answer_of(setup: &Setup, item: Item, made: usize, value: u32) -> Action
+    ensures { result ≡ answer setup.now.map setup.now.tries item made value }
 {
     match register_of(item) {
-        Some(register) if !in_map(map, register) => Action::Refused(Refusal::OutsideMap(register)),
-        _ => next_action(tries, item, made, value),
+        Some(register) if !in_map(setup.map, register) => {
+            Action::Refused(Refusal::OutsideMap(register))
+        }
+        _ => next_action(setup.tries, item, made, value),
     }
 }
 
 // ---- a step of a sound state
 
-// The state after an action: one more action of the item is made, or a refusal is kept.
-fn settle(setup: Setup, place: usize, made: usize, action: Action) -> Stepped
-    requires { made < 2 * TRIES }
-    ensures { result ≡ settled setup place made action }
+// An action and the state after it: one more action of the item is made, or a refusal is kept.
+fn settle(state: State, action: Action) -> Stepped
+    requires { state.made < 2 * TRIES }
+    ensures { result ≡ settled state.setup state.place state.made action }
 {
     let (made, kept) = match action {
-        Action::Read(_) | Action::Write(_, _) | Action::Pause(_) => (made + 1, 0),
-        Action::Done => (made, 0),
-        Action::Refused(why) => (made, why.number() as u32),
+        Action::Read(_) | Action::Write(_, _) | Action::Pause(_) => (state.made + 1, 0),
+        Action::Done => (state.made, 0),
+        Action::Refused(why) => (state.made, why.number() as u32),
     };
     Stepped {
         action,
         state: State {
-            setup,
-            place,
             made,
             kept,
+            ..state
         },
     }
 }
@@ -240,10 +239,7 @@ fn advance(state: State, value: u32) -> Stepped
     requires { Good state }
     ensures { result ≡ step_of state value }
 {
-    let setup = state.setup;
-    let place = state.place;
-    let made = state.made;
-    let item = plan::item_at(setup, place);
+    let item = plan::item_at(state.setup, state.place);
     if state.kept != 0 {
         let why = kept_refusal(state.kept, register_of(item).unwrap_or(0));
         return Stepped {
@@ -251,13 +247,16 @@ fn advance(state: State, value: u32) -> Stepped
             state,
         };
     }
-    if is_over(item, made, value) {
-        let next = plan::item_at(setup, place + 1);
-        let first = answer_of(setup.map, setup.tries, next, 0, value);
-        return settle(setup, place + 1, 0, first);
+    if is_over(item, state.made, value) {
+        let next = State {
+            place: state.place + 1,
+            made: 0,
+            ..state
+        };
+        let first = plan::item_at(next.setup, next.place);
+        return settle(next, answer_of(&next.setup, first, 0, value));
     }
-    let action = answer_of(setup.map, setup.tries, item, made, value);
-    settle(setup, place, made, action)
+    settle(state, answer_of(&state.setup, item, state.made, value))
 }
 
 // ---- soundness
@@ -302,12 +301,15 @@ fn is_end(item: Item) -> bool
 
 // The actions made and the kept refusal's number are those of the item at a place: 10 a wait that failed, 11 a register outside the map.
 #[tactic(auto, unfolding(crate::specs::Machine::kept_ok))]
-fn kept_ok(map: u64, tries: usize, item: Item, place: usize, made: usize, kept: u32) -> bool
-    requires { (0 < tries) × (tries ≤ TRIES) }
-    ensures { result ≡ kept_ok map tries item place made kept }
+fn kept_ok(state: &State, item: Item) -> bool
+    requires { (0 < state.now.setup.tries) × (state.now.setup.tries ≤ TRIES) }
+    ensures { result ≡ kept_ok state.now.setup.map state.now.setup.tries item state.now.place state.now.made state.now.kept }
 {
-    match kept {
-        0 if made == 0 => place == 0 || is_end(item),
+    let map = state.setup.map;
+    let tries = state.setup.tries;
+    let made = state.made;
+    match state.kept {
+        0 if made == 0 => state.place == 0 || is_end(item),
         0 => reaches(map, item) && made <= cost_of(tries, item),
         10 => is_wait(item) && reaches(map, item) && made == cost_of(tries, item),
         11 => made == 0 && !reaches(map, item),
@@ -320,19 +322,10 @@ fn kept_ok(map: u64, tries: usize, item: Item, place: usize, made: usize, kept: 
 pub fn is_sound(state: State) -> bool
     ensures { result ≡ sound_of state }
 {
-    let setup = state.setup;
-    let place = state.place;
-    setup_ok(setup)
-        && place <= plan::count(setup)
-        && passed(setup, place)
-        && kept_ok(
-            setup.map,
-            setup.tries,
-            plan::item_at(setup, place),
-            place,
-            state.made,
-            state.kept,
-        )
+    setup_ok(state.setup)
+        && state.place <= plan::count(state.setup)
+        && passed(state.setup, state.place)
+        && kept_ok(&state, plan::item_at(state.setup, state.place))
 }
 
 // ---- the calls

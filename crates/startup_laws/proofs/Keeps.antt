@@ -28,7 +28,7 @@ use Rattle.startup.specs.declared.State.{State}
 use Rattle.startup.specs.declared.Stepped.{Stepped}
 use Rattle.startup.specs.Machine.{WAIT-MS, WAITED, OUTSIDE, LINK-ACTIONS, seen, link_up, cost, over, waiting, looking, changing, intended, answer, reachable, waits, register_of, kept_refusal, settled, item_at, here, state, step_of, stepped, Kept, first, done, begun, failed, outside, Sound}
 use Rattle.startup.proofs.Sound.{made-most, facts-sound}
-use Rattle.startup.proofs.Ways.{step_kept, step-next, step-here}
+use Rattle.startup.proofs.Ways.{step_kept, number-kept, step-next, step-here}
 use Rattle.startup_laws.specs.Run.{ends, Ends, now, later, total, left}
 
 pub differ : true ≡ false → ⊥
@@ -54,17 +54,11 @@ kept_again i why t k which why' f =
     by_case (inl z) e = inl (sym e ∙ z)
     by_case (inr z) e = inr (sym e ∙ z)
 
--- a kept number, 10 or 11, is its refusal's, and the refusal has the register
-module _ (n register : ℕ) where
-  number-kept : (n ≡ WAITED) ⊎ (n ≡ OUTSIDE) → n ≡ refusal_number (kept_refusal n register)
-  number-kept (inl k) = rw k
-  number-kept (inr k) = rw k
+-- a kept number, 10 or 11, says which refusal it is, and the other way
+which-kept : (n register : ℕ) → (n ≡ WAITED) ⊎ (n ≡ OUTSIDE) → (kept_refusal n register ≡ Waited register) ⊎ (kept_refusal n register ≡ OutsideMap register)
+which-kept n register (inl k) = inl (rw k)
+which-kept n register (inr k) = inr (rw k)
 
-  which-kept : (n ≡ WAITED) ⊎ (n ≡ OUTSIDE) → (kept_refusal n register ≡ Waited register) ⊎ (kept_refusal n register ≡ OutsideMap register)
-  which-kept (inl k) = inl (rw k)
-  which-kept (inr k) = inr (rw k)
-
--- and the other way
 module _ (why : Refusal) (register : ℕ) where
   again-kept : (why ≡ Waited register) ⊎ (why ≡ OutsideMap register) → kept_refusal (refusal_number why) register ≡ why
   again-kept (inl z) = rw z
@@ -302,7 +296,7 @@ module _ (s : State) (sound : Sound s) where
             sound = sound;
             same = refl;
             moved = inl refl;
-            again = kept_again (here s) (kept_refusal s.kept (register_of (here s))) s (number-kept _ (register_of (here s)) which) (which-kept _ _ which);
+            again = kept_again (here s) (kept_refusal s.kept (register_of (here s))) s (sym (number-kept s.kept (register_of (here s)) which)) (which-kept _ _ which);
           })
 
       by-kept : Kept s.setup.map s.setup.tries (here s) s.place s.made s.kept → Kept-on s (step_of s v)
