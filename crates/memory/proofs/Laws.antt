@@ -1,17 +1,11 @@
 -- Laws of packet memory: a packet lies inside its entry, and an entry inside packet memory.
-use Prim.Native.Nat.{ℕ, suc, ◌+◌, ◌-◌, ◌*◌, ◌≤◌, ◌<◌, min, max}
+use Prim.Native.Nat.{ℕ, ◌+◌, ◌-◌, ◌*◌, ◌≤◌, ◌<◌}
 use mathlib.Core.Path.{◌≡◌, refl, sym, ◌∙◌}
 use mathlib.Core.Bool.{Bool, true, false}
-use mathlib.Core.List.{List, [], ◌∷◌, ◌++◌}
-use lib.ListN.{length, get_or, set, drop, length-drop}
-use lib.Seq.{sets, take-suc, length-take-le, get_or-drop, get_or-set_other}
 use lib.Dec.{leb}
-use native.Mathlib.Decide.{dec_lt}
-use native.Mathlib.Nat.{add-zero, suc-mul, mul-le-mul_right}
-use native.Mathlib.Numerals.{add-one}
+use native.Mathlib.Nat.{suc-mul, mul-le-mul_right}
 use native.Mathlib.Omega.{arith}
 use borrow.Author.Tests.{leb-true, ltb-true, eqb-true}
-use lib.Arith.{lt_of_le-ne}
 use Rattle.limits.specs.Limits.{HEADROOM}
 use Rattle.pool.specs.declared.Handle.{Handle}
 use Rattle.pool.specs.Stack.{top}
@@ -21,9 +15,8 @@ use Rattle.refusals.specs.declared.Refusal.TheVariants.{TooLarge, NoHeadroom}
 use Rattle.rules.specs.Verdict.{Verdict}
 use Rattle.rules.specs.Verdict.{Done, Refused}
 use Rattle.rules.specs.Numbers.{unless, on_verdict}
-use Rattle.rules.specs.Sound.{sound, Full, Good}
+use Rattle.rules.specs.Sound.{sound, Good}
 use Rattle.rules.specs.Refusals.{take_verdict, view_verdict, clone_verdict, headroom_verdict}
-use Rattle.rules.specs.Packets.{part}
 use Rattle.rules.proofs.Facts.{Bounds, bounds, stack-known}
 use Rattle.rules.proofs.Sound.{good-means}
 use Rattle.rules.proofs.Verdicts.{not_done, unless-done}

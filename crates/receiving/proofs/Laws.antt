@@ -1,6 +1,6 @@
 -- What the tests of a start and of a receive give the loops: in a sound account every id on the stack and in the ring has an address.
 -- A place past an array's end reads 0, which is an id too: so none of this needs the arrays' lengths.
-use Prim.Native.Nat.{ℕ, ◌≤◌, ◌<◌, min}
+use Prim.Native.Nat.{ℕ, min}
 use mathlib.Core.Path.{◌≡◌}
 use mathlib.Core.Bool.{true}
 use mathlib.Core.List.{List}

@@ -1,7 +1,7 @@
 -- What cleaning, the test of a list and sending ask of what they are lent, and their answers as the rules' works.
-use Rattle.std.specs.Prelude.{ℕ, zero, suc, ◌+◌, ◌*◌, ◌%◌, ◌^◌, ◌≤◌, ◌<◌, ◌≡◌, Bool, true, false, List, length, get_or, set, take, eqb, ltb, leb}
-use Rattle.limits.specs.Limits.{ENTRIES, SENDS, SLOTS, RING-BYTES, HEADROOM, SMALLEST-SIZE, SIZE-DOUBLINGS}
-use Rattle.laws.specs.Test.{both, either}
+use Rattle.std.specs.Prelude.{ℕ, zero, suc, ◌+◌, ◌*◌, ◌%◌, ◌^◌, ◌≤◌, ◌<◌, ◌≡◌, Bool, true, false, List, length, get_or, set, take, eqb}
+use Rattle.limits.specs.Limits.{ENTRIES, SENDS, SLOTS, RING-BYTES, SMALLEST-SIZE, SIZE-DOUBLINGS}
+use Rattle.laws.specs.Test.{both}
 use Rattle.laws.specs.Occurs.{occurs}
 use Rattle.pool.specs.declared.Handle.{Handle}
 use Rattle.pool.specs.Hands.{HAND-OUT}

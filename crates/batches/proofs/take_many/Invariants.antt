@@ -2,7 +2,6 @@
 use Prim.Native.Nat.{◌-◌, ◌≤◌}
 use mathlib.Core.Path.{◌≡◌}
 use lib.ListN.{length}
-use Rattle.pool.specs.declared.FreeStack.{FreeStack}
 use Rattle.rules.specs.Handles.{Handles, handles}
 use Rattle.rules.specs.Account.{with_pool}
 use Rattle.rules.specs.Packets.{take_many, taking, taking_of}

@@ -1,5 +1,5 @@
 -- `memory::copy` meets its contract: what the library's copy leaves is the part set at its place. Assumes nothing.
-use mathlib.Core.Path.{◌≡◌, sym}
+use mathlib.Core.Path.{◌≡◌}
 use native.Mathlib.Nat.{add-sub_cancel_left}
 use native.Mathlib.Omega.{arith}
 use lib.ListN.{length, drop, length-drop}

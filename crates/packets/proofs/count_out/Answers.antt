@@ -1,13 +1,12 @@
 -- `packets::count_out` meets its contract: the chain counts the ids that stand as out, and so does `occurs`. Assumes nothing.
-use Prim.Native.Nat.{ℕ, ◌+◌}
+use Prim.Native.Nat.{ℕ}
 use mathlib.Core.Path.{◌≡◌, refl, sym, ◌∙◌}
-use mathlib.Core.Bool.{Bool, true, false}
-use mathlib.Core.List.{List, ◌∷◌}
-use Rattle.std.proofs.Common.{rules, ◌==◌, take, cond}
+use mathlib.Core.List.{List}
+use Rattle.std.proofs.Common.{rules, ◌==◌, take}
 use Rattle.std.specs.List.{count_by}
 use Rattle.std.proofs.lemmas.List.Recursion.{is_count_by}
 use Rattle.std.proofs.iter.runs.Made.{chains}
-use Rattle.laws.specs.Occurs.{ind, occurs}
+use Rattle.laws.specs.Occurs.{occurs}
 use Rattle.pool.specs.Hands.{HAND-OUT}
 use Rattle.packets.proofs.count_out.Goals as goal
 

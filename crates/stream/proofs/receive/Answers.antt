@@ -1,6 +1,6 @@
 -- `stream::receive` meets its contract: what was received is remembered, whatever the lists held, and the account is sound. Assumes nothing.
 use Prim.Native.Nat.{◌≤◌}
-use mathlib.Core.Path.{◌≡◌, ap}
+use mathlib.Core.Path.{ap}
 use Rattle.limits.specs.Limits.{SLOTS}
 use Rattle.rules.specs.Handles.{Handles, handles, Room}
 use Rattle.rules.specs.Receive.{AfterReceive}

@@ -1,19 +1,16 @@
 -- `stream::send` meets its contract: the gathered handles are sent on the part of the rings that is the queue's. Assumes nothing.
-use Prim.Native.Nat.{ℕ, ◌+◌, ◌-◌, ◌*◌, ◌<◌}
+use Prim.Native.Nat.{ℕ, ◌+◌, ◌-◌, ◌<◌}
 use mathlib.Core.Path.{◌≡◌, sym, ap}
-use lib.ListN.{take, drop}
 use lib.Seq.{length-take-le}
 use native.Mathlib.Omega.{arith}
 use borrow.Author.Tests.{lt-ltb, le-ltb}
 use Rattle.limits.specs.Limits.{SENDS, RING-BYTES}
 use Rattle.rules.specs.Handles.{Handles, handles, Room}
-use Rattle.rules.specs.Sound.{Full}
-use Rattle.rules.specs.Send.{AfterSend, sent_as, send_call}
+use Rattle.rules.specs.Send.{AfterSend}
 use Rattle.rules.proofs.Sound.{sound-means}
 use Rattle.stream.specs.Bench.{send_answer}
 use Rattle.stream.proofs.Keeps.{send-stays}
-use Rattle.stream.proofs.Memory.{room-kept, firsts}
-use borrow.Author.Rules.{rules}
+use Rattle.stream.proofs.Memory.{room-kept}
 use Rattle.stream.proofs.send.Goals as goal
 use Rattle.stream.proofs.send.Goals.{After-gather}
 

@@ -2,7 +2,6 @@
 use Prim.Native.Nat.{ℕ}
 use mathlib.Core.Path.{◌≡◌, refl, sym, ap}
 use mathlib.Core.Bool.{true}
-use lib.Dec.{eqb}
 use borrow.Author.Tests.{ne_eqb}
 use borrow.Author.Rules.{rules}
 use Rattle.laws.specs.Occurs.{sum_to}

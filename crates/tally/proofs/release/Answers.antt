@@ -1,5 +1,5 @@
 -- `tally::release` meets its contract: by the last handle, and the account is sound. Assumes nothing.
-use mathlib.Core.Path.{◌≡◌, refl, ap}
+use mathlib.Core.Path.{refl, ap}
 use Rattle.rules.specs.Answers.{Kept}
 use Rattle.tally.specs.Tally.{release_answer}
 use Rattle.tally.proofs.Keeps.{release-stays}

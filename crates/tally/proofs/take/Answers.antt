@@ -1,6 +1,6 @@
 -- `tally::take` meets its contract: the taken handle is remembered, and the account is sound. Assumes nothing.
 use Prim.Native.Nat.{◌<◌}
-use mathlib.Core.Path.{◌≡◌, refl, sym, ap}
+use mathlib.Core.Path.{refl, sym, ap}
 use native.Mathlib.Omega.{arith}
 use Rattle.limits.specs.Limits.{ENTRIES}
 use Rattle.rules.specs.Answers.{Taken}
