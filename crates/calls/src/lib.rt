@@ -1,5 +1,6 @@
 // The public calls of the account. None asks anything of its caller: each tests the account first, refuses by document 01's table, and
-// leaves everything as it was where it refuses.
+// leaves everything as it was where it refuses. Lists of handles are parallel slices of numbers, and a refused view or headroom is a part with its number
+// beside it, as document 01 has them ("first written over parallel number lists"; "its number comes from a call beside it").
 
 #![tactic(auto)]
 

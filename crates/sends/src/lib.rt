@@ -63,6 +63,7 @@ pub fn clean(
 {
     let mut first = clean;
     let mut deep = depth;
+    // A loop that breaks with the new clean index, as document 01, "Form by location", has it.
     let end = loop {
         if lists::pending(tx, first) < batch {
             break first;
