@@ -223,7 +223,7 @@ fn msix(at: Signalled, rate: u32, made: usize, value: u32) -> Action
 }
 
 // The actions that enable a queue's interrupts, of a kind and at a throttle rate. 12 for a queue above 15, or a kind that is neither MSI nor
-// MSI-X.
+// MSI-X: so the kind is any number (document 01, the table's 12), as in a set-up.
 #[tactic(auto, unfolding(crate::specs::Actions::enable_call))]
 pub fn enable(map: u64, kind: u64, queue: usize, rate: u32, made: usize, value: u32) -> Action
     ensures { result ≡ enable_call map kind queue rate made value }
