@@ -5,7 +5,7 @@
 
 #![tactic(auto)]
 
-ghost use Rattle.std.specs.Prelude.{◌≡◌, ◌+◌, ◌*◌, ◌^◌, ◌<◌, get_or};
+ghost use Rattle.std.specs.Prelude.{◌≡◌, ◌↔◌, ◌≤◌, ◌<◌, get_or, IsNone, IfSome};
 ghost use Rattle.card.specs.Registers.{address, register_row, EIMS, IVAR};
 ghost use Rattle.card.specs.Masks.{changed, queue_bit, vector_clear, vector_set};
 ghost use Rattle.startup.specs.declared.Action.TheVariants as action;
@@ -147,6 +147,26 @@ pub fn promiscuous(map: u64, on: bool, made: usize, value: u32) -> Action
 
 // ---- a queue's interrupts
 
+// A queue that can be signalled: it has a bit in the interrupt masks.
+#[derive(Clone, Copy)]
+struct Signalled {
+    queue: usize,
+    ghost low: { queue < SIGNALLED },
+}
+
+impl Signalled {
+    // The queue, if it is one.
+    fn new(queue: usize) -> Option<Signalled>
+        ensures none { IsNone result ↔ (SIGNALLED ≤ queue) }
+        ensures some { IfSome result (λ s. s.queue ≡ queue) }
+    {
+        if queue >= startup::SIGNALLED {
+            return None;
+        }
+        Some(Signalled { queue })
+    }
+}
+
 // The mask of enabled causes with a queue's bit.
 fn enable_bit(queue: usize, value: u32) -> Action
     ensures { result ≡ action.Write (address EIMS 0) (changed value 0 (queue_bit queue)) }
@@ -156,38 +176,35 @@ fn enable_bit(queue: usize, value: u32) -> Action
 }
 
 // A queue's IVAR with its vector.
-fn set_vector(queue: usize, vector: usize, value: u32) -> Action
-    requires { (queue < SIGNALLED) × (vector < SIGNALLED) }
-    ensures { result ≡ action.Write (address IVAR queue) (changed value (vector_clear 0 queue) (vector_set 0 queue vector)) }
+fn set_vector(at: Signalled, vector: u32, value: u32) -> Action
+    ensures { result ≡ action.Write (address IVAR at.queue) (changed value (vector_clear 0 at.queue) (vector_set 0 at.queue vector)) }
 {
-    let clear = card::vector_clear(Direction::Receive, queue);
-    let set = card::vector_set(Direction::Receive, queue, vector as u32);
+    let clear = card::vector_clear(Direction::Receive, at.queue);
+    let set = card::vector_set(Direction::Receive, at.queue, vector);
     let word = card::changed_word(value, clear, set);
-    Action::Write(Register::IVAR.address(queue), word)
+    Action::Write(Register::IVAR.address(at.queue), word)
 }
 
 // The actions that enable a queue's MSI.
-fn msi(queue: usize, rate: u32, made: usize, value: u32) -> Action
-    requires { queue < SIGNALLED }
-    ensures { result ≡ get_or (msi_actions queue rate value) made action.Done }
+fn msi(at: Signalled, rate: u32, made: usize, value: u32) -> Action
+    ensures { result ≡ get_or (msi_actions at.queue rate value) made action.Done }
 {
     match made {
-        0 => Action::Read(Register::IVAR.address(queue)),
-        1 => set_vector(queue, 0, value),
+        0 => Action::Read(Register::IVAR.address(at.queue)),
+        1 => set_vector(at, 0, value),
         2 => write(Register::EIAC, 0),
-        3 => Action::Write(Register::EITR.address(queue), rate),
+        3 => Action::Write(Register::EITR.address(at.queue), rate),
         4 => write(Register::EIMC, card::IRQ_ALL),
         5 => read(Register::EICR),
         6 => read(Register::EIMS),
-        7 => enable_bit(queue, value),
+        7 => enable_bit(at.queue, value),
         _ => Action::Done,
     }
 }
 
 // The actions that enable a queue's MSI-X.
-fn msix(queue: usize, rate: u32, made: usize, value: u32) -> Action
-    requires { queue < SIGNALLED }
-    ensures { result ≡ get_or (msix_actions queue rate value) made action.Done }
+fn msix(at: Signalled, rate: u32, made: usize, value: u32) -> Action
+    ensures { result ≡ get_or (msix_actions at.queue rate value) made action.Done }
 {
     match made {
         0 => read(Register::GPIE),
@@ -195,25 +212,28 @@ fn msix(queue: usize, rate: u32, made: usize, value: u32) -> Action
             let word = card::changed_word(value, 0, card::GPIE_MSIX);
             write(Register::GPIE, word)
         }
-        2 => Action::Read(Register::IVAR.address(queue)),
-        3 => set_vector(queue, queue, value),
+        2 => Action::Read(Register::IVAR.address(at.queue)),
+        3 => set_vector(at, at.queue as u32, value),
         4 => write(Register::EIAC, card::IRQ_QUEUES),
-        5 => Action::Write(Register::EITR.address(queue), rate),
+        5 => Action::Write(Register::EITR.address(at.queue), rate),
         6 => read(Register::EIMS),
-        7 => enable_bit(queue, value),
+        7 => enable_bit(at.queue, value),
         _ => Action::Done,
     }
 }
 
 // The actions that enable a queue's interrupts, of a kind and at a throttle rate. 12 for a queue above 15, or a kind that is neither MSI nor
-// MSI-X.
+// MSI-X: so the kind is any number (document 01, the table's 12), as in a set-up.
 #[tactic(auto, unfolding(crate::specs::Actions::enable_call))]
 pub fn enable(map: u64, kind: u64, queue: usize, rate: u32, made: usize, value: u32) -> Action
     ensures { result ≡ enable_call map kind queue rate made value }
 {
+    let Some(at) = Signalled::new(queue) else {
+        return Action::Refused(Refusal::NoInterrupt);
+    };
     match kind {
-        plan::MSI if queue < startup::SIGNALLED => guard(map, msi(queue, rate, made, value)),
-        plan::MSIX if queue < startup::SIGNALLED => guard(map, msix(queue, rate, made, value)),
+        plan::MSI => guard(map, msi(at, rate, made, value)),
+        plan::MSIX => guard(map, msix(at, rate, made, value)),
         _ => Action::Refused(Refusal::NoInterrupt),
     }
 }
@@ -240,8 +260,8 @@ fn off(queue: usize, made: usize, value: u32) -> Action
 pub fn disable(map: u64, queue: usize, made: usize, value: u32) -> Action
     ensures { result ≡ disable_call map queue made value }
 {
-    if queue >= startup::SIGNALLED {
-        return Action::Refused(Refusal::NoInterrupt);
+    match Signalled::new(queue) {
+        Some(at) => guard(map, off(at.queue, made, value)),
+        None => Action::Refused(Refusal::NoInterrupt),
     }
-    guard(map, off(queue, made, value))
 }

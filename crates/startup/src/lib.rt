@@ -21,7 +21,7 @@ pub const LINK_ACTIONS: usize = 201;
 // The receive queues that have a bit in the interrupt masks.
 pub const SIGNALLED: usize = 16;
 
-// What the host does next.
+// What the host does next. Document 01 ("Registers") counts a refusal among the actions, so a step answers no Result.
 #[derive(Clone, Copy, PartialEq, Eq, Debug)]
 pub enum Action {
     Read(u32),
@@ -41,7 +41,7 @@ pub struct State {
     pub kept: u32,
 }
 
-// What a step answers: the action, and the state to give the next step.
+// What a step answers: the action, which document 01 ("Form by location") puts inside the answer, and the state to give the next step.
 #[derive(Clone, Copy)]
 pub struct Stepped {
     pub action: Action,
@@ -406,7 +406,8 @@ pub fn no_state() -> State
 }
 
 // A set-up: 9 for a number out of range, 2 for fewer addresses than queues, 12 for interrupts that can't be had; else the first state.
-// The addresses are copied. Map length and throttle rate are taken as they are.
+// The addresses are copied. Map length and throttle rate are taken as they are. The numbers come one by one, as docs/PROMISES.md (`begun`) has
+// them, and not as a `Setup`, whose array of rings is this call's to fill.
 #[tactic(auto, unfolding(crate::specs::SetUp::begun, crate::specs::SetUp::set_up_number, crate::specs::Machine::in_range))]
 pub fn set_up(
     map: u64,
