@@ -11,7 +11,7 @@ pub struct Forge {
 }
 
 impl Forge {
-    pub fn of(body: &mut Body<'_>) -> Option<Forge> {
+    pub(crate) fn of(body: &mut Body<'_>) -> Option<Forge> {
         Some(Forge {
             field: body.take()?,
             place: body.take()?,

@@ -11,7 +11,7 @@ mod register_calls;
 pub use account_calls::{
     AccountCall, Array, Lent, ListCall, Loan, MemoryCall, PacketCall, Part, Shape,
 };
-pub use body::Body;
+use body::Body;
 pub use forge::Forge;
 pub use numbers::{Number, digest, mixed, store, value_of};
 pub use register_calls::{RateCall, Reads, RunTimeCall, SetUp, StartUpCall, Words};
@@ -48,10 +48,11 @@ impl<'a> Record<'a> {
 // A record out of the first bytes of a body.
 fn named<'a>(kind: u16, body: &mut Body<'a>) -> Option<Record<'a>> {
     match kind {
-        0..=19 => account_calls::call(kind, body),
-        20..=39 => account_calls::access(kind, body),
-        40..=49 => register_calls::start_up(kind, body),
-        50..=69 => register_calls::run_time(kind, body),
-        _ => register_calls::rates(kind, body),
+        1..=14 => account_calls::call(kind, body),
+        20..=35 => account_calls::access(kind, body),
+        40..=44 => register_calls::start_up(kind, body),
+        50..=62 => register_calls::run_time(kind, body),
+        70..=75 => register_calls::rates(kind, body),
+        _ => None,
     }
 }

@@ -1,5 +1,5 @@
 -- `replay_run::read`: what an error leaves read is the head, and what was read of the body behind it.
-use Rattle.std.proofs.Common.{List, ℕ, ◌++◌, take}
+use Rattle.std.proofs.Common.{ℕ, ◌++◌, take}
 use Rattle.std.specs.Io.KnownBytes.{Consumes}
 use Rattle.std.proofs.KnownBytes.{Consumes-trans}
 use Rattle.replay_run.proofs.Errors.{OnErr-of}
