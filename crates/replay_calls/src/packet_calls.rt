@@ -1,188 +1,119 @@
-// The calls on packets and the tests of an account and of its numbers: each prints its answer and hands back the account after it.
-use crate::kept::KEPT;
-use crate::loans::least;
+// The calls on packets and the tests of an account and of its numbers: each prints its answer.
 use pool::Handle;
-use replay_lines::{mixed, show, show_count, show_counts, show_handle, show_verdict, show_whether};
-use replay_records::{MOST, byte, half, of_byte, word};
+use replay_lines::{show, show_counts, show_handle, show_verdict, show_whether};
+use replay_records::{MemoryCall, PacketCall, Shape, digest};
 use rules::{Account, Kept, Taken};
-use std::io::{Result, Write};
-
-// The handle that a body begins with.
-fn handle_of(n: [u64; MOST]) -> Handle {
-    Handle {
-        pool: word(n[0]),
-        id: half(n[1]),
-        offset: half(n[2]),
-        length: half(n[3]),
-    }
-}
+use std::io::{self, Write};
 
 // An answer that is a number.
-fn kept<W: Write>(output: &mut W, answer: Kept) -> Result<Account> {
-    let verdict = answer.verdict;
-    show_verdict(output, verdict)?;
-    show_counts(output, answer.account)?;
-    Ok(answer.account)
+fn kept<W: Write>(output: &mut W, account: &mut Account, answer: Kept) -> io::Result<()> {
+    *account = answer.account;
+    show_verdict(output, answer.verdict)?;
+    show_counts(output, account)
 }
 
 // An answer that has a handle.
-fn taken<W: Write>(output: &mut W, answer: Taken) -> Result<Account> {
-    let verdict = answer.verdict;
-    show_verdict(output, verdict)?;
+fn taken<W: Write>(output: &mut W, account: &mut Account, answer: Taken) -> io::Result<()> {
+    *account = answer.account;
+    show_verdict(output, answer.verdict)?;
     show_handle(output, answer.handle)?;
-    show_counts(output, answer.account)?;
-    Ok(answer.account)
+    show_counts(output, account)
 }
 
-fn fresh<W: Write>(output: &mut W, n: [u64; MOST]) -> Result<Account> {
-    kept(
-        output,
-        calls::fresh(
-            word(n[0]),
-            n[1] as usize,
-            n[2] as usize,
-            n[3] as usize,
-            n[4] as usize,
-        ),
-    )
+fn fresh(pool: u32, shape: Shape) -> Kept {
+    calls::fresh(pool, shape.entries, shape.size, shape.receives, shape.sends)
 }
 
-fn counts<W: Write>(output: &mut W, account: Account) -> Result<Account> {
-    let counts = calls::counts(account);
-    let verdict = counts.verdict;
-    let send = counts.send;
-    show_verdict(output, verdict)?;
-    show_count(output, counts.free)?;
-    show_count(output, counts.receive)?;
-    show_count(output, send[0])?;
-    show_count(output, send[1])?;
-    show_count(output, send[2])?;
-    show_count(output, send[3])?;
-    show_count(output, counts.out)?;
-    Ok(account)
+fn counts<W: Write>(output: &mut W, account: &Account) -> io::Result<()> {
+    let counts = calls::counts(*account);
+    show_verdict(output, counts.verdict)?;
+    show(output, counts.free)?;
+    show(output, counts.receive)?;
+    for count in counts.send {
+        show(output, count)?;
+    }
+    show(output, counts.out)
 }
 
-fn take<W: Write>(output: &mut W, n: [u64; MOST], account: Account) -> Result<Account> {
-    taken(output, calls::take(account, n[0] as usize))
+fn truncate<W: Write>(
+    output: &mut W,
+    account: &Account,
+    handle: Handle,
+    size: usize,
+) -> io::Result<()> {
+    let answer = calls::truncate(*account, handle, size);
+    show_verdict(output, answer.verdict)?;
+    show_handle(output, answer.handle)
 }
 
-fn release<W: Write>(output: &mut W, n: [u64; MOST], account: Account) -> Result<Account> {
-    kept(output, calls::release(account, handle_of(n)))
-}
-
-fn truncate<W: Write>(output: &mut W, n: [u64; MOST], account: Account) -> Result<Account> {
-    let answer = calls::truncate(account, handle_of(n), n[4] as usize);
-    let verdict = answer.verdict;
-    show_verdict(output, verdict)?;
-    show_handle(output, answer.handle)?;
-    Ok(account)
-}
-
-fn is_sound<W: Write>(output: &mut W, account: Account) -> Result<Account> {
-    show_whether(output, sound::is_sound(account))?;
-    Ok(account)
-}
-
-fn in_range<W: Write>(output: &mut W, n: [u64; MOST], account: Account) -> Result<Account> {
-    show_whether(
-        output,
-        sound::in_range(n[0] as usize, n[1] as usize, n[2] as usize, n[3] as usize),
-    )?;
-    Ok(account)
+fn in_range(shape: Shape) -> bool {
+    sound::in_range(shape.entries, shape.size, shape.receives, shape.sends)
 }
 
 // A call that is lent nothing.
-pub fn call<W: Write>(
-    output: &mut W,
-    kind: u16,
-    n: [u64; MOST],
-    account: Account,
-) -> Result<Account> {
-    match kind {
-        1 => fresh(output, n),
-        2 => counts(output, account),
-        3 => take(output, n, account),
-        5 => release(output, n, account),
-        6 => truncate(output, n, account),
-        13 => is_sound(output, account),
-        _ => in_range(output, n, account),
+pub fn call<W: Write>(output: &mut W, account: &mut Account, call: PacketCall) -> io::Result<()> {
+    match call {
+        PacketCall::Fresh { pool, shape } => kept(output, account, fresh(pool, shape)),
+        PacketCall::Counts => counts(output, account),
+        PacketCall::Take { size } => {
+            let answer = calls::take(*account, size);
+            taken(output, account, answer)
+        }
+        PacketCall::Release { handle } => {
+            let answer = calls::release(*account, handle);
+            kept(output, account, answer)
+        }
+        PacketCall::Truncate { handle, size } => truncate(output, account, handle, size),
+        PacketCall::Sound => show_whether(output, sound::is_sound(*account)),
+        PacketCall::InRange { shape } => show_whether(output, in_range(shape)),
     }
 }
 
 // ---- packet memory
 
-// A digest of every byte.
-fn digest(part: &[u8]) -> u64 {
-    let mut digest = 0;
-    for i in 0..part.len() {
-        digest = mixed(digest, of_byte(part[i]));
-    }
-    digest
-}
-
-// Sets every byte, and says how many there are.
-fn fill(part: &mut [u8], byte: u8) -> usize {
-    for i in 0..part.len() {
-        part[i] = byte;
-    }
-    part.len()
-}
-
-fn clone<W: Write>(
-    output: &mut W,
-    n: [u64; MOST],
-    account: Account,
-    memory: &mut [u8],
-) -> Result<Account> {
-    taken(output, calls::clone(account, handle_of(n), memory))
-}
-
 fn view<W: Write>(
     output: &mut W,
-    n: [u64; MOST],
-    account: Account,
+    account: &Account,
+    handle: Handle,
     memory: &[u8],
-) -> Result<Account> {
-    let handle = handle_of(n);
-    show_verdict(output, calls::view_verdict(account, handle, memory.len()))?;
-    let part = calls::view(account, handle, memory);
-    show_count(output, part.len())?;
-    show(output, digest(part))?;
-    Ok(account)
+) -> io::Result<()> {
+    show_verdict(output, calls::view_verdict(*account, handle, memory.len()))?;
+    let part = calls::view(*account, handle, memory);
+    show(output, part.len())?;
+    show(output, digest(part))
 }
 
 fn headroom<W: Write>(
     output: &mut W,
-    n: [u64; MOST],
-    account: Account,
+    account: &Account,
+    handle: Handle,
+    asked: usize,
+    fill: u8,
     memory: &mut [u8],
-) -> Result<Account> {
-    let handle = handle_of(n);
-    let asked = n[4] as usize;
-    show_verdict(
-        output,
-        calls::headroom_verdict(account, handle, asked, memory.len()),
-    )?;
-    let part = calls::headroom(account, handle, asked, memory);
-    show_count(output, fill(part, byte(n[6])))?;
-    Ok(account)
+) -> io::Result<()> {
+    let verdict = calls::headroom_verdict(*account, handle, asked, memory.len());
+    show_verdict(output, verdict)?;
+    let part = calls::headroom(*account, handle, asked, memory);
+    part.fill(fill);
+    show(output, part.len())
 }
 
-// A call that is lent the first bytes of packet memory.
+// A call on a packet that is lent the first bytes of packet memory.
 pub fn call_in_memory<W: Write>(
     output: &mut W,
-    kind: u16,
-    n: [u64; MOST],
-    account: Account,
-    bytes: &mut [u8],
-) -> Result<Account> {
-    let asked = if kind == 9 { n[5] } else { n[4] };
-    let first = least(KEPT, bytes.len());
-    let last = first + least(asked as usize, bytes.len() - first);
-    let memory = &mut bytes[first..last];
-    match kind {
-        7 => clone(output, n, account, memory),
-        8 => view(output, n, account, memory),
-        _ => headroom(output, n, account, memory),
+    account: &mut Account,
+    handle: Handle,
+    call: MemoryCall,
+    memory: &mut [u8],
+) -> io::Result<()> {
+    match call {
+        MemoryCall::Clone => {
+            let answer = calls::clone(*account, handle, memory);
+            taken(output, account, answer)
+        }
+        MemoryCall::View => view(output, account, handle, memory),
+        MemoryCall::Headroom { asked, fill } => {
+            headroom(output, account, handle, asked, fill, memory)
+        }
     }
 }

@@ -1,117 +1,112 @@
 // The interrupt window, kinds 70 to 75: set-up, tick, a rate, the test of soundness, forged windows, and every field.
 use limits::MOST_RATES;
-use replay_lines::{show, show_numbers, show_whether, show_word};
-use replay_records::{MOST, word};
-use std::io::{Result, Write};
+use replay_lines::{Fault, Head, begin, show, show_all, show_forged, show_whether};
+use replay_records::{Forge, RateCall};
+use std::io::{self, Write};
 use window::Window;
-
-// A window's fields that are no arrays: 0 R, 1 threshold, 2 interval, 3 on, 4 calls, 5 sum, 6 count. The rates are the field after them.
-const FIELDS: usize = 7;
-
-// The window with these fields, each cut to its type, and rates.
-fn window_of(n: [u64; FIELDS], rates: [u32; MOST_RATES]) -> Window {
-    Window {
-        range: n[0] as usize,
-        threshold: n[1],
-        interval: n[2],
-        on: n[3] != 0,
-        calls: n[4] as usize,
-        sum: n[5],
-        count: n[6] as usize,
-        rates,
-    }
-}
-
-fn numbers_of(window: Window) -> [u64; FIELDS] {
-    [
-        window.range as u64,
-        window.threshold,
-        window.interval,
-        if window.on { 1 } else { 0 },
-        window.calls as u64,
-        window.sum,
-        window.count as u64,
-    ]
-}
 
 // Every field 0.
 pub fn blank() -> Window {
-    window_of([0; FIELDS], [0; MOST_RATES])
+    Window {
+        range: 0,
+        threshold: 0,
+        interval: 0,
+        on: false,
+        calls: 0,
+        sum: 0,
+        count: 0,
+        rates: [0; MOST_RATES],
+    }
 }
 
-fn open<W: Write>(output: &mut W, n: [u64; MOST]) -> Result<Window> {
-    let opened = window::new(n[0] as usize, n[1], n[2]);
-    show_word(output, opened.number)?;
-    Ok(opened.window)
+fn open<W: Write>(
+    output: &mut W,
+    window: &mut Window,
+    range: usize,
+    threshold: u64,
+    interval: u64,
+) -> io::Result<()> {
+    let opened = window::new(range, threshold, interval);
+    *window = opened.window;
+    show(output, opened.number)
 }
 
-fn tick<W: Write>(output: &mut W, window: Window) -> Result<Window> {
+fn tick<W: Write>(output: &mut W, window: &mut Window) -> io::Result<()> {
     let ticked = window.tick();
-    show_word(output, ticked.number)?;
-    show_whether(output, ticked.looks)?;
-    Ok(ticked.window)
+    *window = ticked.window;
+    show(output, ticked.number)?;
+    show_whether(output, ticked.looks)
 }
 
-fn rated<W: Write>(output: &mut W, n: [u64; MOST], window: Window) -> Result<Window> {
-    let rated = window.rated(n[0], word(n[1]), n[2] as usize, n[3] as usize);
-    let next = rated.window;
-    show_word(output, rated.number)?;
+fn rated<W: Write>(
+    output: &mut W,
+    window: &mut Window,
+    elapsed: u64,
+    rate: u32,
+    received: usize,
+    asked: usize,
+) -> io::Result<()> {
+    let rated = window.rated(elapsed, rate, received, asked);
+    *window = rated.window;
+    show(output, rated.number)?;
     show_whether(output, rated.decided)?;
-    show_whether(output, next.on)?;
-    Ok(next)
+    show_whether(output, window.on)
 }
 
-fn is_sound<W: Write>(output: &mut W, window: Window) -> Result<Window> {
-    show_whether(output, window.is_sound())?;
-    Ok(window)
-}
-
-// Whether a field has a place.
-pub fn has_place(field: u64, place: u64) -> bool {
-    if field == FIELDS as u64 {
-        return place < MOST_RATES as u64;
+// Sets what a record forges, if it is there: the fields by docs/REPLAY.md's numbers, which only this match reads.
+fn set(window: &mut Window, forge: Forge) -> Option<()> {
+    match forge.field {
+        0 => window.range = forge.cut()?,
+        1 => window.threshold = forge.cut()?,
+        2 => window.interval = forge.cut()?,
+        3 => window.on = forge.cut::<u64>()? != 0,
+        4 => window.calls = forge.cut()?,
+        5 => window.sum = forge.cut()?,
+        6 => window.count = forge.cut()?,
+        7 => forge.set(&mut window.rates)?,
+        _ => return None,
     }
-    field < FIELDS as u64 && place == 0
+    Some(())
 }
 
-fn forge<W: Write>(output: &mut W, n: [u64; MOST], window: Window) -> Result<Window> {
-    let field = n[0] as usize;
-    let place = n[1] as usize;
-    let mut numbers = numbers_of(window);
-    let mut rates = window.rates;
-    show(output, n[0])?;
-    show(output, n[1])?;
-    if field < FIELDS {
-        numbers[field] = n[2];
-    } else if place < MOST_RATES {
-        rates[place] = word(n[2]);
+fn fields<W: Write>(output: &mut W, window: &Window) -> io::Result<()> {
+    show(output, window.range)?;
+    show(output, window.threshold)?;
+    show(output, window.interval)?;
+    show_whether(output, window.on)?;
+    show(output, window.calls)?;
+    show(output, window.sum)?;
+    show(output, window.count)?;
+    show_all(output, &window.rates)
+}
+
+// A record of the window.
+pub fn play<W: Write>(
+    output: &mut W,
+    head: Head,
+    call: RateCall,
+    window: &mut Window,
+) -> Result<(), Fault> {
+    if let RateCall::Forge(forge) = call {
+        set(window, forge).ok_or(Fault::Bad)?;
     }
-    Ok(window_of(numbers, rates))
-}
-
-fn show_rates<W: Write>(output: &mut W, rates: [u32; MOST_RATES]) -> Result<()> {
-    for i in 0..MOST_RATES {
-        show_word(output, rates[i])?;
+    begin(output, head)?;
+    match call {
+        RateCall::Open {
+            range,
+            threshold,
+            interval,
+        } => open(output, window, range, threshold, interval)?,
+        RateCall::Tick => tick(output, window)?,
+        RateCall::Rated {
+            elapsed,
+            rate,
+            received,
+            asked,
+        } => rated(output, window, elapsed, rate, received, asked)?,
+        RateCall::Sound => show_whether(output, window.is_sound())?,
+        RateCall::Forge(forge) => show_forged(output, forge)?,
+        RateCall::Fields => fields(output, window)?,
     }
     Ok(())
-}
-
-fn fields<W: Write>(output: &mut W, window: Window) -> Result<Window> {
-    let numbers = numbers_of(window);
-    let rates = window.rates;
-    show_numbers(output, &numbers)?;
-    show_rates(output, rates)?;
-    Ok(window)
-}
-
-// A record of these kinds.
-pub fn call<W: Write>(output: &mut W, kind: u16, n: [u64; MOST], window: Window) -> Result<Window> {
-    match kind {
-        70 => open(output, n),
-        71 => tick(output, window),
-        72 => rated(output, n, window),
-        73 => is_sound(output, window),
-        74 => forge(output, n, window),
-        _ => fields(output, window),
-    }
 }

@@ -1,54 +1,50 @@
 // Start-up, kinds 40 to 44: set-up, step, the test of soundness, forged states, and every field.
-use plan::{Interrupts, Setup};
-use replay_lines::{mixed, show, show_action, show_numbers, show_whether, show_word};
-use replay_records::{MOST, word};
+use plan::Interrupts;
+use replay_lines::{Fault, Head, begin, show, show_action, show_forged, show_whether};
+use replay_records::{Forge, SetUp, StartUpCall, digest};
 use startup::State;
-use std::io::{Result, Write};
-
-// A state's fields: 0 map, 1 receive queues, 2 send queues, 3 W, 4 interrupts, 5 throttle rate, 6 ring addresses, 7 place, 8 made, 9 kept.
-const FIELDS: usize = 10;
-
-const RINGS: usize = 6;
+use std::io::{self, Write};
 
 // What a refused set-up leaves.
 pub fn blank() -> State {
-    let none = [0u64; 1];
-    let begun = startup::set_up(0, 0, 0, 0, Interrupts::Off, 0, &none);
+    let begun = startup::set_up(0, 0, 0, 0, Interrupts::Off, 0, &[0; 1]);
     begun.state
 }
 
-// None, or a kind.
-fn interrupts(asked: bool, kind: u64) -> Interrupts {
-    if asked {
-        return Interrupts::Kind(kind);
+// The interrupts of a kind, if any.
+fn interrupts_of(kind: Option<u64>) -> Interrupts {
+    match kind {
+        None => Interrupts::Off,
+        Some(kind) => Interrupts::Kind(kind),
     }
-    Interrupts::Off
 }
 
-fn set_up<W: Write>(output: &mut W, n: [u64; MOST], addresses: &[u64]) -> Result<State> {
+// A set-up, lent some addresses.
+pub fn set_up<W: Write>(
+    output: &mut W,
+    head: Head,
+    call: SetUp,
+    state: &mut State,
+    addresses: &[u64],
+) -> io::Result<()> {
     let begun = startup::set_up(
-        n[0],
-        n[1] as usize,
-        n[2] as usize,
-        n[3] as usize,
-        interrupts(n[4] != 0, n[5]),
-        word(n[6]),
+        call.map,
+        call.receives,
+        call.sends,
+        call.tries,
+        interrupts_of(call.interrupts),
+        call.rate,
         addresses,
     );
-    show_word(output, begun.number)?;
-    Ok(begun.state)
+    *state = begun.state;
+    begin(output, head)?;
+    show(output, begun.number)
 }
 
-fn step<W: Write>(output: &mut W, n: [u64; MOST], state: State) -> Result<State> {
-    let stepped = startup::step(state, word(n[0]));
-    let action = stepped.action;
-    show_action(output, action)?;
-    Ok(stepped.state)
-}
-
-fn is_sound<W: Write>(output: &mut W, state: State) -> Result<State> {
-    show_whether(output, startup::is_sound(state))?;
-    Ok(state)
+fn step<W: Write>(output: &mut W, state: &mut State, value: u32) -> io::Result<()> {
+    let stepped = startup::step(*state, value);
+    *state = stepped.state;
+    show_action(output, stepped.action)
 }
 
 // ---- a state's fields as numbers
@@ -57,103 +53,59 @@ fn is_sound<W: Write>(output: &mut W, state: State) -> Result<State> {
 fn number_of(interrupts: Interrupts) -> u64 {
     match interrupts {
         Interrupts::Off => 0,
-        Interrupts::Kind(kind) => std::num::wrapping_add_u64(kind, 1),
+        Interrupts::Kind(kind) => kind.wrapping_add(1),
     }
 }
 
-// A digest of the ring addresses.
-fn digest(rings: [u64; plan::RINGS]) -> u64 {
-    let mut digest = 0;
-    for i in 0..plan::RINGS {
-        digest = mixed(digest, rings[i]);
+// Sets what a record forges, if it is there: the fields by docs/REPLAY.md's numbers, which only this match reads.
+fn set(state: &mut State, forge: Forge) -> Option<()> {
+    match forge.field {
+        0 => state.setup.map = forge.cut()?,
+        1 => state.setup.receives = forge.cut()?,
+        2 => state.setup.sends = forge.cut()?,
+        3 => state.setup.tries = forge.cut()?,
+        4 => state.setup.interrupts = interrupts_of(forge.cut::<u64>()?.checked_sub(1)),
+        5 => state.setup.rate = forge.cut()?,
+        6 => forge.set(&mut state.setup.rings)?,
+        7 => state.place = forge.cut()?,
+        8 => state.made = forge.cut()?,
+        9 => state.kept = forge.cut()?,
+        _ => return None,
     }
-    digest
+    Some(())
 }
 
 // Every field; of the ring addresses a digest.
-fn numbers_of(state: State) -> [u64; FIELDS] {
+fn fields<W: Write>(output: &mut W, state: &State) -> io::Result<()> {
     let setup = state.setup;
-    let rings = setup.rings;
-    let interrupts = setup.interrupts;
-    [
-        setup.map,
-        setup.receives as u64,
-        setup.sends as u64,
-        setup.tries as u64,
-        number_of(interrupts),
-        setup.rate as u64,
-        digest(rings),
-        state.place as u64,
-        state.made as u64,
-        state.kept as u64,
-    ]
+    show(output, setup.map)?;
+    show(output, setup.receives)?;
+    show(output, setup.sends)?;
+    show(output, setup.tries)?;
+    show(output, number_of(setup.interrupts))?;
+    show(output, setup.rate)?;
+    show(output, digest(&setup.rings))?;
+    show(output, state.place)?;
+    show(output, state.made)?;
+    show(output, state.kept)
 }
 
-// The state with these fields, each cut to its type, and ring addresses.
-fn state_of(n: [u64; FIELDS], rings: [u64; plan::RINGS]) -> State {
-    let setup = Setup {
-        map: n[0],
-        receives: n[1] as usize,
-        sends: n[2] as usize,
-        tries: n[3] as usize,
-        interrupts: interrupts(n[4] != 0, std::num::wrapping_sub_u64(n[4], 1)),
-        rate: word(n[5]),
-        rings,
-    };
-    State {
-        setup,
-        place: n[7] as usize,
-        made: n[8] as usize,
-        kept: word(n[9]),
-    }
-}
-
-// Whether a field has a place.
-pub fn has_place(field: u64, place: u64) -> bool {
-    if field == RINGS as u64 {
-        return place < plan::RINGS as u64;
-    }
-    field < FIELDS as u64 && place == 0
-}
-
-fn forge<W: Write>(output: &mut W, n: [u64; MOST], state: State) -> Result<State> {
-    let setup = state.setup;
-    let field = n[0] as usize;
-    let place = n[1] as usize;
-    let mut numbers = numbers_of(state);
-    let mut rings = setup.rings;
-    show(output, n[0])?;
-    show(output, n[1])?;
-    if field < FIELDS {
-        numbers[field] = n[2];
-    }
-    if field == RINGS {
-        if place < plan::RINGS {
-            rings[place] = n[2];
-        }
-    }
-    Ok(state_of(numbers, rings))
-}
-
-fn fields<W: Write>(output: &mut W, state: State) -> Result<State> {
-    let numbers = numbers_of(state);
-    show_numbers(output, &numbers)?;
-    Ok(state)
-}
-
-// A record of these kinds, lent some addresses.
-pub fn call<W: Write>(
+// A record of the state.
+pub fn play<W: Write>(
     output: &mut W,
-    kind: u16,
-    n: [u64; MOST],
-    state: State,
-    addresses: &[u64],
-) -> Result<State> {
-    match kind {
-        40 => set_up(output, n, addresses),
-        41 => step(output, n, state),
-        42 => is_sound(output, state),
-        43 => forge(output, n, state),
-        _ => fields(output, state),
+    head: Head,
+    call: StartUpCall,
+    state: &mut State,
+) -> Result<(), Fault> {
+    if let StartUpCall::Forge(forge) = call {
+        set(state, forge).ok_or(Fault::Bad)?;
     }
+    begin(output, head)?;
+    match call {
+        StartUpCall::Step { value } => step(output, state, value)?,
+        StartUpCall::Sound => show_whether(output, startup::is_sound(*state))?,
+        StartUpCall::Forge(forge) => show_forged(output, forge)?,
+        StartUpCall::Fields => fields(output, state)?,
+    }
+    Ok(())
 }
