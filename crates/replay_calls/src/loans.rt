@@ -1,44 +1,69 @@
 // The calls that are lent lists, a ring and addresses: what is lent is cut in one function for all of them.
 use crate::kept::{ROOM, pack, part_mut, unpack};
+use refusals::Refusal;
 use replay_lines::{
-    Fault, Head, begin, show, show_counts, show_refusal, show_stop, show_tail, show_verdict,
+    Fault, Head, begin, show, show_counts, show_number, show_refusal, show_stop, show_tail,
 };
 use replay_records::{Array, ListCall, Loan};
-use rules::{Account, Batch, Ended, Received, Sent, Started};
+use rules::{Account, Received, Sent};
 use std::io::{self, Write};
 
 // ---- answers
 
-fn batched<W: Write>(output: &mut W, account: &mut Account, answer: Batch) -> io::Result<()> {
-    *account = answer.account;
-    show_verdict(output, answer.verdict)?;
-    show(output, answer.count)?;
+fn batched<W: Write>(
+    output: &mut W,
+    account: &Account,
+    answer: Result<usize, Refusal>,
+) -> io::Result<()> {
+    show_number(output, &answer)?;
+    show(output, answer.unwrap_or(0))?;
     show_counts(output, account)
 }
 
-fn started<W: Write>(output: &mut W, account: &mut Account, answer: Started) -> io::Result<()> {
-    *account = answer.account;
-    show_verdict(output, answer.verdict)?;
-    show_tail(output, answer.tail)?;
+fn started<W: Write>(
+    output: &mut W,
+    account: &Account,
+    answer: Result<usize, Refusal>,
+) -> io::Result<()> {
+    show_number(output, &answer)?;
+    show_tail(output, answer.ok())?;
     show_counts(output, account)
 }
 
-fn received<W: Write>(output: &mut W, account: &mut Account, answer: Received) -> io::Result<()> {
-    *account = answer.account;
-    match answer.ended {
-        Ended::Refused(why) => show_refusal(output, why)?,
-        Ended::Stopped(stop) => show_stop(output, stop)?,
+fn received<W: Write>(
+    output: &mut W,
+    account: &Account,
+    answer: Result<Received, Refusal>,
+) -> io::Result<()> {
+    match answer {
+        Err(why) => {
+            show_refusal(output, why)?;
+            write!(output, " 0 -")?;
+        }
+        Ok(received) => {
+            show_stop(output, received.stop)?;
+            show(output, received.count)?;
+            show_tail(output, received.tail)?;
+        }
     }
-    show(output, answer.count)?;
-    show_tail(output, answer.tail)?;
     show_counts(output, account)
 }
 
-fn sent<W: Write>(output: &mut W, account: &mut Account, answer: Sent) -> io::Result<()> {
-    *account = answer.account;
-    show_verdict(output, answer.verdict)?;
-    show(output, answer.count)?;
-    show_tail(output, answer.tail)?;
+fn sent<W: Write>(
+    output: &mut W,
+    account: &Account,
+    answer: Result<Sent, Refusal>,
+) -> io::Result<()> {
+    match answer {
+        Err(why) => {
+            show_refusal(output, why)?;
+            write!(output, " 0 -")?;
+        }
+        Ok(sent) => {
+            let Sent { count, tail } = sent;
+            write!(output, " 0 {count} {tail}")?;
+        }
+    }
     show_counts(output, account)
 }
 
@@ -86,22 +111,22 @@ fn called<W: Write>(
     let lengths = &mut *lists.lengths;
     match call {
         ListCall::Batch { n, size } => {
-            let answer = calls::batch(*account, n, size, pools, ids, offsets, lengths);
+            let answer = calls::batch(account, n, size, pools, ids, offsets, lengths);
             batched(output, account, answer)
         }
         ListCall::Start { queue } => {
-            let answer = calls::start(*account, queue, ring, addresses);
+            let answer = calls::start(account, queue, ring, addresses);
             started(output, account, answer)
         }
         ListCall::Receive { queue, n } => {
             let answer = calls::receive(
-                *account, queue, ring, addresses, n, pools, ids, offsets, lengths,
+                account, queue, ring, addresses, n, pools, ids, offsets, lengths,
             );
             received(output, account, answer)
         }
         ListCall::Send { queue } => {
             let answer = calls::send(
-                *account, queue, ring, addresses, pools, ids, offsets, lengths,
+                account, queue, ring, addresses, pools, ids, offsets, lengths,
             );
             sent(output, account, answer)
         }

@@ -1,38 +1,68 @@
 // The calls on packets and the tests of an account and of its numbers: each prints its answer.
 use pool::Handle;
-use replay_lines::{show, show_counts, show_handle, show_verdict, show_whether};
+use refusals::Refusal;
+use replay_lines::{show, show_counts, show_handle, show_number, show_whether};
 use replay_records::{MemoryCall, PacketCall, Shape, digest};
-use rules::{Account, Kept, Taken};
+use rules::Account;
 use std::io::{self, Write};
 
 // An answer that is a number.
-fn kept<W: Write>(output: &mut W, account: &mut Account, answer: Kept) -> io::Result<()> {
-    *account = answer.account;
-    show_verdict(output, answer.verdict)?;
+fn kept<W: Write>(
+    output: &mut W,
+    account: &Account,
+    answer: Result<(), Refusal>,
+) -> io::Result<()> {
+    show_number(output, &answer)?;
     show_counts(output, account)
 }
 
-// An answer that has a handle.
-fn taken<W: Write>(output: &mut W, account: &mut Account, answer: Taken) -> io::Result<()> {
-    *account = answer.account;
-    show_verdict(output, answer.verdict)?;
-    show_handle(output, answer.handle)?;
+// An answer that has a handle: all zeros where it is refused.
+fn taken<W: Write>(
+    output: &mut W,
+    account: &Account,
+    answer: Result<Handle, Refusal>,
+) -> io::Result<()> {
+    let none = Handle {
+        pool: 0,
+        id: 0,
+        offset: 0,
+        length: 0,
+    };
+    show_number(output, &answer)?;
+    show_handle(output, answer.unwrap_or(none))?;
     show_counts(output, account)
 }
 
-fn fresh(pool: u32, shape: Shape) -> Kept {
-    calls::fresh(pool, shape.entries, shape.size, shape.receives, shape.sends)
-}
-
-fn counts<W: Write>(output: &mut W, account: &Account) -> io::Result<()> {
-    let counts = calls::counts(*account);
-    show_verdict(output, counts.verdict)?;
-    show(output, counts.free)?;
-    show(output, counts.receive)?;
-    for count in counts.send {
-        show(output, count)?;
+// A fresh account takes the account's place; a refused one leaves the account that every call refuses.
+fn fresh(account: &mut Account, pool: u32, shape: Shape) -> Result<(), Refusal> {
+    let answer = calls::fresh(pool, shape.entries, shape.size, shape.receives, shape.sends);
+    match answer {
+        Ok(opened) => {
+            *account = opened;
+            Ok(())
+        }
+        Err(why) => {
+            *account = calls::no_account();
+            Err(why)
+        }
     }
-    show(output, counts.out)
+}
+
+// What each hand has: nothing where the account is not sound.
+fn counts<W: Write>(output: &mut W, account: &Account) -> io::Result<()> {
+    let answer = calls::counts(account);
+    show_number(output, &answer)?;
+    match answer {
+        Ok(counts) => {
+            show(output, counts.free)?;
+            show(output, counts.receive)?;
+            for count in counts.send {
+                show(output, count)?;
+            }
+            show(output, counts.out)
+        }
+        Err(_) => write!(output, " 0 0 0 0 0 0 0"),
+    }
 }
 
 fn truncate<W: Write>(
@@ -41,9 +71,9 @@ fn truncate<W: Write>(
     handle: Handle,
     size: usize,
 ) -> io::Result<()> {
-    let answer = calls::truncate(*account, handle, size);
-    show_verdict(output, answer.verdict)?;
-    show_handle(output, answer.handle)
+    let answer = calls::truncate(account, handle, size);
+    show_number(output, &answer)?;
+    show_handle(output, answer.unwrap_or(handle))
 }
 
 fn in_range(shape: Shape) -> bool {
@@ -53,18 +83,21 @@ fn in_range(shape: Shape) -> bool {
 // A call that is lent nothing.
 pub fn call<W: Write>(output: &mut W, account: &mut Account, call: PacketCall) -> io::Result<()> {
     match call {
-        PacketCall::Fresh { pool, shape } => kept(output, account, fresh(pool, shape)),
+        PacketCall::Fresh { pool, shape } => {
+            let answer = fresh(account, pool, shape);
+            kept(output, account, answer)
+        }
         PacketCall::Counts => counts(output, account),
         PacketCall::Take { size } => {
-            let answer = calls::take(*account, size);
+            let answer = calls::take(account, size);
             taken(output, account, answer)
         }
         PacketCall::Release { handle } => {
-            let answer = calls::release(*account, handle);
+            let answer = calls::release(account, handle);
             kept(output, account, answer)
         }
         PacketCall::Truncate { handle, size } => truncate(output, account, handle, size),
-        PacketCall::Sound => show_whether(output, sound::is_sound(*account)),
+        PacketCall::Sound => show_whether(output, sound::is_sound(account)),
         PacketCall::InRange { shape } => show_whether(output, in_range(shape)),
     }
 }
@@ -77,8 +110,9 @@ fn view<W: Write>(
     handle: Handle,
     memory: &[u8],
 ) -> io::Result<()> {
-    show_verdict(output, calls::view_verdict(*account, handle, memory.len()))?;
-    let part = calls::view(*account, handle, memory);
+    let answer = calls::view_verdict(account, handle, memory.len());
+    show_number(output, &answer)?;
+    let part = calls::view(account, handle, memory);
     show(output, part.len())?;
     show(output, digest(part))
 }
@@ -91,9 +125,9 @@ fn headroom<W: Write>(
     fill: u8,
     memory: &mut [u8],
 ) -> io::Result<()> {
-    let verdict = calls::headroom_verdict(*account, handle, asked, memory.len());
-    show_verdict(output, verdict)?;
-    let part = calls::headroom(*account, handle, asked, memory);
+    let answer = calls::headroom_verdict(account, handle, asked, memory.len());
+    show_number(output, &answer)?;
+    let part = calls::headroom(account, handle, asked, memory);
     part.fill(fill);
     show(output, part.len())
 }
@@ -108,7 +142,7 @@ pub fn call_in_memory<W: Write>(
 ) -> io::Result<()> {
     match call {
         MemoryCall::Clone => {
-            let answer = calls::clone(*account, handle, memory);
+            let answer = calls::clone(account, handle, memory);
             taken(output, account, answer)
         }
         MemoryCall::View => view(output, account, handle, memory),

@@ -5,8 +5,9 @@
 
 use limits::SENDS;
 use pool::Handle;
+use refusals::Refusal;
 use replay_records::{Forge, Number};
-use rules::{Account, Refusal, Stop, Tail, Verdict};
+use rules::{Account, Stop};
 use startup::Action;
 use std::fmt::Display;
 use std::io::{Error, Result, Write};
@@ -76,18 +77,21 @@ pub fn show_forged<W: Write>(output: &mut W, forge: Forge) -> Result<()> {
 
 // Document 01's number of a refusal, and after a 4 the index.
 pub fn show_refusal<W: Write>(output: &mut W, why: Refusal) -> Result<()> {
-    show(output, calls::refusal_number(why))?;
+    show(output, why.number())?;
     if let Refusal::BadHandle(index) = why {
         show(output, index)?;
     }
     Ok(())
 }
 
-// Document 01's number of a call.
-pub fn show_verdict<W: Write>(output: &mut W, verdict: Verdict) -> Result<()> {
-    match verdict {
-        Verdict::Done => show(output, 0),
-        Verdict::Refused(why) => show_refusal(output, why),
+// Document 01's number of an answer.
+pub fn show_number<W: Write, T>(
+    output: &mut W,
+    answer: &std::result::Result<T, Refusal>,
+) -> Result<()> {
+    match answer {
+        Ok(_) => show(output, 0),
+        Err(why) => show_refusal(output, *why),
     }
 }
 
@@ -106,10 +110,10 @@ pub fn show_stop<W: Write>(output: &mut W, stop: Stop) -> Result<()> {
 }
 
 // A tail's slot, or a dash where none is written.
-pub fn show_tail<W: Write>(output: &mut W, tail: Tail) -> Result<()> {
+pub fn show_tail<W: Write>(output: &mut W, tail: Option<usize>) -> Result<()> {
     match tail {
-        Tail::Unwritten => show(output, "-"),
-        Tail::Written(slot) => show(output, slot),
+        None => show(output, "-"),
+        Some(slot) => show(output, slot),
     }
 }
 
@@ -130,13 +134,17 @@ fn together(send: [usize; SENDS]) -> usize {
         .fold(0, |sum: usize, count| sum.wrapping_add(*count))
 }
 
-// How many buffers are free, on the receive ring, in all send queues, and out.
+// How many buffers are free, on the receive ring, in all send queues, and out; none where the account is not sound.
 pub fn show_counts<W: Write>(output: &mut W, account: &Account) -> Result<()> {
-    let counts = calls::counts(*account);
-    show(output, counts.free)?;
-    show(output, counts.receive)?;
-    show(output, together(counts.send))?;
-    show(output, counts.out)
+    match calls::counts(account) {
+        Ok(counts) => {
+            show(output, counts.free)?;
+            show(output, counts.receive)?;
+            show(output, together(counts.send))?;
+            show(output, counts.out)
+        }
+        Err(_) => write!(output, " 0 0 0 0"),
+    }
 }
 
 // What the host does next with the registers.
@@ -146,6 +154,10 @@ pub fn show_action<W: Write>(output: &mut W, action: Action) -> Result<()> {
         Action::Write(register, value) => write!(output, " write {register} {value}"),
         Action::Pause(ms) => write!(output, " pause {ms}"),
         Action::Done => show(output, "done"),
-        Action::Refused(number, register) => write!(output, " refused {number} {register}"),
+        Action::Refused(why) => {
+            let number = why.number();
+            let register = why.also();
+            write!(output, " refused {number} {register}")
+        }
     }
 }

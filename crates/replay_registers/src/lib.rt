@@ -28,12 +28,7 @@ impl Registers {
         Registers {
             state: start_up::blank(),
             window: rates::blank(),
-            stats: Stats {
-                received: 0,
-                sent: 0,
-                received_bytes: 0,
-                sent_bytes: 0,
-            },
+            stats: Stats::default(),
         }
     }
 }

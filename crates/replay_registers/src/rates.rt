@@ -1,6 +1,6 @@
 // The interrupt window, kinds 70 to 75: set-up, tick, a rate, the test of soundness, forged windows, and every field.
 use limits::MOST_RATES;
-use replay_lines::{Fault, Head, begin, show, show_all, show_forged, show_whether};
+use replay_lines::{Fault, Head, begin, show, show_all, show_forged, show_number, show_whether};
 use replay_records::{Forge, RateCall};
 use std::io::{self, Write};
 use window::Window;
@@ -26,16 +26,21 @@ fn open<W: Write>(
     threshold: u64,
     interval: u64,
 ) -> io::Result<()> {
-    let opened = window::new(range, threshold, interval);
-    *window = opened.window;
-    show(output, opened.number)
+    let answer = window::new(range, threshold, interval);
+    *window = answer.unwrap_or(Window::unset());
+    show_number(output, &answer)
 }
 
 fn tick<W: Write>(output: &mut W, window: &mut Window) -> io::Result<()> {
-    let ticked = window.tick();
-    *window = ticked.window;
-    show(output, ticked.number)?;
-    show_whether(output, ticked.looks)
+    let answer = window.tick();
+    show_number(output, &answer)?;
+    match answer {
+        Ok(ticked) => {
+            *window = ticked.window;
+            show_whether(output, ticked.looks)
+        }
+        Err(_) => show_whether(output, false),
+    }
 }
 
 fn rated<W: Write>(
@@ -46,10 +51,15 @@ fn rated<W: Write>(
     received: usize,
     asked: usize,
 ) -> io::Result<()> {
-    let rated = window.rated(elapsed, rate, received, asked);
-    *window = rated.window;
-    show(output, rated.number)?;
-    show_whether(output, rated.decided)?;
+    let answer = window.rated(elapsed, rate, received, asked);
+    show_number(output, &answer)?;
+    match answer {
+        Ok(rated) => {
+            *window = rated.window;
+            show_whether(output, rated.decided)?;
+        }
+        Err(_) => show_whether(output, false)?,
+    }
     show_whether(output, window.on)
 }
 

@@ -1,22 +1,12 @@
 // Start-up, kinds 40 to 44: set-up, step, the test of soundness, forged states, and every field.
-use plan::Interrupts;
-use replay_lines::{Fault, Head, begin, show, show_action, show_forged, show_whether};
+use replay_lines::{Fault, Head, begin, show, show_action, show_forged, show_number, show_whether};
 use replay_records::{Forge, SetUp, StartUpCall, digest};
 use startup::State;
 use std::io::{self, Write};
 
 // What a refused set-up leaves.
 pub fn blank() -> State {
-    let begun = startup::set_up(0, 0, 0, 0, Interrupts::Off, 0, &[0; 1]);
-    begun.state
-}
-
-// The interrupts of a kind, if any.
-fn interrupts_of(kind: Option<u64>) -> Interrupts {
-    match kind {
-        None => Interrupts::Off,
-        Some(kind) => Interrupts::Kind(kind),
-    }
+    startup::no_state()
 }
 
 // A set-up, lent some addresses.
@@ -27,18 +17,18 @@ pub fn set_up<W: Write>(
     state: &mut State,
     addresses: &[u64],
 ) -> io::Result<()> {
-    let begun = startup::set_up(
+    let answer = startup::set_up(
         call.map,
         call.receives,
         call.sends,
         call.tries,
-        interrupts_of(call.interrupts),
+        call.interrupts,
         call.rate,
         addresses,
     );
-    *state = begun.state;
+    *state = answer.unwrap_or(startup::no_state());
     begin(output, head)?;
-    show(output, begun.number)
+    show_number(output, &answer)
 }
 
 fn step<W: Write>(output: &mut W, state: &mut State, value: u32) -> io::Result<()> {
@@ -50,11 +40,8 @@ fn step<W: Write>(output: &mut W, state: &mut State, value: u32) -> io::Result<(
 // ---- a state's fields as numbers
 
 // The number of some interrupts: 0 for none, else one more than the kind.
-fn number_of(interrupts: Interrupts) -> u64 {
-    match interrupts {
-        Interrupts::Off => 0,
-        Interrupts::Kind(kind) => kind.wrapping_add(1),
-    }
+fn number_of(interrupts: Option<u64>) -> u64 {
+    interrupts.map_or(0, |kind| kind.wrapping_add(1))
 }
 
 // Sets what a record forges, if it is there: the fields by docs/REPLAY.md's numbers, which only this match reads.
@@ -64,7 +51,7 @@ fn set(state: &mut State, forge: Forge) -> Option<()> {
         1 => state.setup.receives = forge.cut()?,
         2 => state.setup.sends = forge.cut()?,
         3 => state.setup.tries = forge.cut()?,
-        4 => state.setup.interrupts = interrupts_of(forge.cut::<u64>()?.checked_sub(1)),
+        4 => state.setup.interrupts = forge.cut::<u64>()?.checked_sub(1),
         5 => state.setup.rate = forge.cut()?,
         6 => forge.set(&mut state.setup.rings)?,
         7 => state.place = forge.cut()?,
