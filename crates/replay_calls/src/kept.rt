@@ -1,4 +1,5 @@
-// What is kept beside the account, in one block of bytes: five rings, the four lists, the addresses and packet memory, all little-endian.
+// What is kept beside the account, in one block of bytes: five rings, the four lists, the addresses and packet memory, all little-endian. A host in C
+// lends the block (docs/DECISIONS.md, D35), so that the arrays are parts of it.
 use replay_lines::{Fault, Head, begin, show};
 use replay_records::{Array, Number, Part, mixed, store, value_of};
 use std::io::Write;
@@ -61,7 +62,7 @@ pub fn part_of(part: Part, bytes: &[u8]) -> Result<&[u8], Fault> {
     bytes.get(range).ok_or(Fault::Bad)
 }
 
-// The same, to be written.
+// The same, to be written: a function is over a `&` or a `&mut`, as `get` and `get_mut` are.
 pub fn part_mut(part: Part, bytes: &mut [u8]) -> Result<&mut [u8], Fault> {
     let count = bytes.len();
     let range = range_of(part, count).ok_or(Fault::Bad)?;

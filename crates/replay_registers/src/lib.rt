@@ -1,5 +1,5 @@
-// The register calls that the records of `replay` describe (docs/REPLAY.md, kinds 40 to 75): each makes its call and prints its line, but for the line's
-// end. Of a record that is bad nothing is printed and nothing changed.
+// The register calls that the records of `replay` describe (docs/REPLAY.md, kinds 40 to 75): each makes its call and prints its line, but for the
+// line's end. Of a record that is bad nothing is printed and nothing changed.
 
 #![tactic(auto)]
 
