@@ -3,9 +3,9 @@ use Prim.Native.Nat.{ℕ, suc, ◌+◌, ◌-◌, ◌^◌, ◌≤◌, ◌<◌}
 use mathlib.Core.Path.{◌≡◌, refl, ap, ◌∙◌}
 use mathlib.Core.Bool.{Bool, true, false, not}
 use mathlib.Core.List.{List, ◌++◌}
-use lib.ListN.{length, take}
+use lib.ListN.{length}
 use lib.Dec.{ltb, leb}
-use Rattle.std.specs.Prelude.{Option, Some, None, is_none}
+use Rattle.std.specs.Prelude.{Some, None, is_some}
 use native.Mathlib.Omega.{arith}
 use borrow.Author.Tests.{ltb-true, leb-true, not-true}
 use Rattle.laws.specs.Test.{pick, both}
@@ -85,9 +85,11 @@ shown-line : (count : ℕ) (good : Bool) (line : Line) → shown_text count (pic
 shown-line count true line = refl
 shown-line count false line = refl
 
-pub ends-run : (good : Bool) (line : Line) → is_none (pick good (Some line) None) ≡ not good
-ends-run true line = refl
-ends-run false line = refl
+pub ends-run : (good : Bool) (line : Line) (ended : Bool) → is_some (pick good (Some line) None) ≡ not ended → ended ≡ not good
+ends-run true line true e = e
+ends-run true line false e = refl
+ends-run false line true e = refl
+ends-run false line false e = e
 
 -- what a record's turn and its line leave
 pub shown-as : (w : Ran) (end : ℕ) (t : Turn) {ended : Bool} {text : List ℕ} {left : Stand} → ended ≡ not t.good → text ≡ w.text ++ shown_text w.count (seen t) → left ≡ t.left

@@ -1,12 +1,12 @@
 -- `turns::turn` meets its contract: a bad record, a fresh account, what the card does, and a call. Assumes nothing.
-use mathlib.Core.Path.{◌≡◌, refl, sym, ap, ◌∙◌}
+use mathlib.Core.Path.{sym, ap, ◌∙◌}
 use lib.Dec.{eqb}
 use Rattle.std.specs.Prelude.{Some, None}
 use Rattle.records.specs.declared.Record.TheVariants.{Fresh, Card, Call}
 use Rattle.records.specs.Card.{Rings}
 use Rattle.tally.specs.Tally.{Answer, memory_as, fresh_answer}
 use Rattle.stream.specs.Bench.{bench_as, Outcome}
-use Rattle.turns.specs.Turns.{Stand, stand_as, Turn, line_of, seen}
+use Rattle.turns.specs.Turns.{stand_as, Turn, line_of, seen}
 use Rattle.turns.proofs.Turning.{is-zero, by_way, fresh-turn, card-turn, call-turn}
 use Rattle.turns.proofs.turn.Goals as goal
 
