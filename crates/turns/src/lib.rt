@@ -129,6 +129,7 @@ fn goes_on(run: &Run, room: usize) -> bool
 }
 
 // The records of some bytes, up to a bad one, one that is cut short, or the last whose line has room.
+// The lists stay slices: `Bench` asks for arrays as long as the entries and for four lists of at least MOST, which arrays in one struct would narrow.
 pub fn serve(
     buffer: &[u8],
     to: usize,
