@@ -3,30 +3,23 @@ use Prim.Native.Nat.{ℕ, suc, ◌+◌, ◌-◌, ◌^◌, ◌≤◌, ◌<◌}
 use mathlib.Core.Path.{◌≡◌, refl, ap, ◌∙◌}
 use mathlib.Core.Bool.{Bool, true, false, not}
 use mathlib.Core.List.{List, ◌++◌}
-use lib.ListN.{length, take}
+use lib.ListN.{length}
 use lib.Dec.{ltb, leb}
+use Rattle.std.specs.Prelude.{Some, None, is_some}
 use native.Mathlib.Omega.{arith}
-use borrow.Author.Tests.{ltb-true, leb-true, not-true, ne_eqb}
-use Rattle.laws.specs.Test.{both}
+use borrow.Author.Tests.{ltb-true, leb-true, not-true}
+use Rattle.laws.specs.Test.{pick, both}
 use Rattle.laws.proofs.Test.{both_left, both_right}
-use Rattle.rules.specs.declared.Account.{Account}
 use Rattle.rules.specs.Handles.{Handles}
 use Rattle.rules.specs.Sound.{sound}
-use Rattle.records.specs.Records.{record_of, way_of, end_of}
-use Rattle.records.specs.declared.Way.{Way}
-use Rattle.tally.specs.Tally.{memory_as}
-use Rattle.stream.specs.Bench.{bench_as, Bench}
+use Rattle.records.specs.Records.{end_of}
+use Rattle.stream.specs.Bench.{State, Bench}
 use Rattle.lines.specs.declared.Line.{Line}
-use Rattle.lines.specs.Lines.{LINE, text_of}
-use Rattle.turns.specs.Turns.{Stand, stand_as, Turn, turn_as, Ran, rest_of, shown, way_turn, turn_rule, ran_one, ran, goes_on}
+use Rattle.lines.specs.Lines.{LINE, text_of, shown_text}
+use Rattle.turns.specs.Turns.{Stand, Turn, seen, Ran, rest_of, shown, turn_rule, ran_one, ran, goes_on}
 
 abbrev placed : ℕ → ℕ → Bool → List ℕ → Stand → Ran
 placed from count ended text stand = record { from = from; count = count; ended = ended; text = text; stand = stand }
-
--- where the turns stand, by the program's variables
-abbrev pub standing : ℕ → ℕ → ℕ → Bool → Bool → Account → List ℕ → List ℕ → List ℕ → List ℕ → List ℕ → Ran
-standing from count at ended begun account out rx tx offsets lengths =
-    placed from count ended (take at out) (stand_as begun (bench_as account rx tx (memory_as offsets lengths)))
 
 -- lists of handles as long as others
 pub record Same (l k : Handles) : Type 0 where
@@ -68,59 +61,46 @@ goes_on-holds ended count at room e =
       leb-true LINE (room - at) (both_right (ltb count (2 ^ 64 - 1)) (leb LINE (room - at)) rest),
     )
 
--- what a record's turn is, and that it keeps what holds
-pub record Turned (b addresses : List ℕ) (s : Stand) (lists : Handles) (ended : Bool) (line : Line) (left : Stand) (lists' : Handles) : Type 0 where
-  pub turn : turn_as (not ended) line left ≡ turn_rule b addresses s
-  pub good : sound left.state.account ≡ true
-  pub rx : length left.state.rx ≡ length s.state.rx
-  pub tx : length left.state.tx ≡ length s.state.tx
-  pub offsets : length left.state.memory.offsets ≡ length s.state.memory.offsets
-  pub lengths : length left.state.memory.lengths ≡ length s.state.memory.lengths
-  pub kept : Same lists' lists
-
 -- what is lent keeps its lengths
-pub bench-kept : {b addresses : List ℕ} {s left : Stand} {lists lists' : Handles} {ended : Bool} {line : Line}
-    → Turned b addresses s lists ended line left lists' → Bench s.state addresses lists → Bench left.state addresses lists'
-bench-kept t bench =
+pub bench-kept : {addresses : List ℕ} {s left : State} {lists lists' : Handles} → length left.rx ≡ length s.rx → length left.tx ≡ length s.tx
+    → length left.memory.offsets ≡ length s.memory.offsets → length left.memory.lengths ≡ length s.memory.lengths → Same lists' lists
+    → Bench s addresses lists → Bench left addresses lists'
+bench-kept rx tx offsets lengths kept bench =
     record {
-      rx = t.rx ∙ bench.rx;
-      tx = t.tx ∙ bench.tx;
-      offsets = t.offsets ∙ bench.offsets;
-      lengths = t.lengths ∙ bench.lengths;
+      rx = rx ∙ bench.rx;
+      tx = tx ∙ bench.tx;
+      offsets = offsets ∙ bench.offsets;
+      lengths = lengths ∙ bench.lengths;
       known = bench.known;
       room = record {
-        pools = omega (arith, t.kept.pools, bench.room.pools);
-        ids = omega (arith, t.kept.ids, bench.room.ids);
-        offsets = omega (arith, t.kept.offsets, bench.room.offsets);
-        lengths = omega (arith, t.kept.lengths, bench.room.lengths);
+        pools = omega (arith, kept.pools, bench.room.pools);
+        ids = omega (arith, kept.ids, bench.room.ids);
+        offsets = omega (arith, kept.offsets, bench.room.offsets);
+        lengths = omega (arith, kept.lengths, bench.room.lengths);
       };
     }
 
--- a record's turn, by what is done with it
-pub by_way : (b addresses : List ℕ) (s : Stand) {w : Way} {t : Turn} → way_of s.begun s.state.account.sends (record_of b) ≡ w
-    → t ≡ way_turn w (record_of b) b addresses s → t ≡ turn_rule b addresses s
-unfolding turn_rule
-by_way b addresses s e turn = rw e turn
+-- the line of a turn, and whether it ends the run
+shown-line : (count : ℕ) (good : Bool) (line : Line) → shown_text count (pick good (Some line) None) ≡ text_of count good line
+shown-line count true line = refl
+shown-line count false line = refl
 
--- a turn, part by part
-pub turn-as : {e e' : Bool} {l l' : Line} {g g' : Bool} {a a' : Account} {r r' t t' o o' n n' : List ℕ} → e ≡ e' → l ≡ l' → g ≡ g' → a ≡ a' → r ≡ r' → t ≡ t' → o ≡ o' → n ≡ n'
-    → turn_as (not e) l (stand_as g (bench_as a r t (memory_as o n))) ≡ turn_as (not e') l' (stand_as g' (bench_as a' r' t' (memory_as o' n')))
-turn-as ended line begun account rx tx offsets lengths = rw (ended, line, begun, account, rx, tx, offsets, lengths)
-
-not-twice : (b : Bool) → not (not b) ≡ b
-not-twice true = refl
-not-twice false = refl
+pub ends-run : (good : Bool) (line : Line) (ended : Bool) → is_some (pick good (Some line) None) ≡ not ended → ended ≡ not good
+ends-run true line true e = e
+ends-run true line false e = refl
+ends-run false line true e = refl
+ends-run false line false e = e
 
 -- what a record's turn and its line leave
-pub shown-as : (w : Ran) (end : ℕ) (ended : Bool) (line : Line) (left : Stand) {text : List ℕ} → text ≡ w.text ++ text_of w.count (not ended) line
-    → placed end (w.count + 1) ended text left ≡ shown end (turn_as (not ended) line left) w
-shown-as w end ended line left e = rw (e, not-twice ended)
+pub shown-as : (w : Ran) (end : ℕ) (t : Turn) {ended : Bool} {text : List ℕ} {left : Stand} → ended ≡ not t.good → text ≡ w.text ++ shown_text w.count (seen t) → left ≡ t.left
+    → placed end (w.count + 1) ended text left ≡ shown end t w
+shown-as w end t e f g = rw (e, f, g, shown-line w.count t.good t.line)
 
 -- a record that is whole is shown
-pub one_more : (to : ℕ) (b addresses : List ℕ) (w : Ran) {end : ℕ} {t : Turn} → w.ended ≡ false → end ≡ end_of w.from to b → (end ≡ 0 → ⊥)
-    → t ≡ turn_rule (rest_of w.from end b) addresses w.stand → shown end t w ≡ ran_one to b addresses w
+pub one_more : (to : ℕ) (b addresses : List ℕ) (w : Ran) {end : ℕ} → w.ended ≡ false → Some end ≡ end_of w.from to b
+    → shown end (turn_rule (rest_of w.from end b) addresses w.stand) w ≡ ran_one to b addresses w
 unfolding ran_one
-one_more to b addresses w going whole some e = rw (← whole, going, ne_eqb _ _ some, e)
+one_more to b addresses w going whole = rw (← whole, going)
 
 -- no record yet
 pub no_more : (to : ℕ) (b addresses : List ℕ) (w : Ran) → w ≡ ran (w.count - w.count) to b addresses w

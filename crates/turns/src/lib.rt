@@ -4,17 +4,19 @@
 
 #![tactic(auto)]
 
-ghost use Rattle.std.specs.Prelude.{◌≡◌, true, false, ◌-◌, ◌≤◌, length};
+ghost use Rattle.std.specs.Prelude.{◌≡◌, Some, None, true, false, ◌++◌, ◌+◌, ◌-◌, ◌≤◌, ◌<◌, length, take};
+ghost use Rattle.rules.specs.declared.Account as account;
 ghost use Rattle.rules.specs.Handles.{handles};
 ghost use Rattle.rules.specs.Sound.{sound};
 ghost use Rattle.records.specs.Records.{end_of};
-ghost use Rattle.tally.specs.Tally.{memory_as, fresh_rule};
+ghost use Rattle.tally.specs.Tally.{memory_as, answer_as};
 ghost use Rattle.stream.specs.Bench.{bench_as, Bench};
-ghost use Rattle.turns.specs.Turns.{line_of, quiet_line, opened_by, ran_as, ran, goes_on};
+ghost use Rattle.lines.specs.Lines.{LINE, shown_text};
+ghost use Rattle.turns.specs.Turns.{line_of, seen, stand_as, turn_rule, ran_as, ran, goes_on};
 
 use limits::SMALLEST_SIZE;
-use lines::{LINE, Line};
-use records::{Record, Way};
+use lines::{LINE, Line, Out};
+use records::Record;
 use rules::Account;
 use tally::Answer;
 
@@ -30,20 +32,12 @@ pub struct Run {
     pub account: Account,
 }
 
-// A fresh account that answers 0 is the bench's from then on; a refused one leaves what there was.
-#[derive(Drop)]
-struct Opened {
-    pub line: Line,
-    pub begun: bool,
-    pub account: Account,
-}
-
 // Before the first record. A sound account stands there until a fresh one answers 0.
 pub fn first() -> Run
     ensures { (result.count ≡ 1) × (result.ended ≡ false) × (result.begun ≡ false) × (sound result.account ≡ true) }
 {
-    let fresh = tally::fresh(1, SMALLEST_SIZE, 0);
-    let account = fresh.account;
+    let mut account = calls::no_account();
+    tally::fresh(&mut account, 1, SMALLEST_SIZE, 0);
     Run {
         from: 0,
         count: 1,
@@ -56,73 +50,91 @@ pub fn first() -> Run
 
 // The line of an answer.
 fn line_of(what: Record, answer: Answer) -> Line
-    ensures { result ≡ line_of what answer }
+    ensures { (a : account.Account) → result ≡ line_of (Some what) (answer_as answer a) }
 {
-    let tally = answer.tally;
+    let (number, value) = match answer.outcome {
+        Ok(value) => (0, value),
+        Err(why) => (why.number(), 0),
+    };
     Line {
         kind: records::kind(what),
-        number: answer.number,
-        value: answer.value,
-        tally,
+        number,
+        value,
+        tally: answer.tally,
     }
 }
 
-// The line of a record that leaves the account as it was.
-fn quiet_line(what: Record, account: Account) -> Line
-    requires { sound account ≡ true }
-    ensures { result ≡ quiet_line what account }
+// What a record does, and what its line shows. A bad one does nothing, and shows nothing. A fresh account that answers 0 is the bench's from then on.
+fn turn(
+    rest: &[u8],
+    begun: &mut bool,
+    account: &mut Account,
+    rx: &mut [u8],
+    tx: &mut [u8],
+    addresses: &[u64],
+    offsets: &mut [u16],
+    lengths: &mut [u16],
+    pools: &mut [u32],
+    ids: &mut [u16],
+    froms: &mut [u16],
+    sizes: &mut [u16],
+) -> Option<Line>
+    requires { (sound account.old ≡ true) × (length rest.now < 65536) × Bench (bench_as account.old rx.old tx.old (memory_as offsets.old lengths.old)) addresses.now (handles pools.old ids.old froms.old sizes.old) }
+    ensures line { result ≡ seen (turn_rule rest.now addresses.now (stand_as begun.old (bench_as account.old rx.old tx.old (memory_as offsets.old lengths.old)))) }
+    ensures left { stand_as begun.new (bench_as account.new rx.new tx.new (memory_as offsets.new lengths.new)) ≡ (turn_rule rest.now addresses.now (stand_as begun.old (bench_as account.old rx.old tx.old (memory_as offsets.old lengths.old)))).left }
+    ensures keeps { sound account.new ≡ true }
 {
-    Line {
-        kind: records::kind(what),
-        number: 0,
-        value: 0,
-        tally: tally::counted(account),
+    let what = records::admit(records::decode(rest), *begun, account.sends)?;
+    match what {
+        Record::Fresh {
+            entries,
+            size,
+            sends,
+        } => {
+            let answer = tally::fresh(account, entries, size, sends);
+            *begun = answer.outcome.is_ok();
+            Some(line_of(what, answer))
+        }
+        Record::Card(event) => {
+            records::on_card(event, rx, tx);
+            Some(line_of(what, tally::answered(Ok(0), account)))
+        }
+        Record::Call(call) => {
+            let answer = stream::on_account(
+                call, rest, account, rx, tx, addresses, offsets, lengths, pools, ids, froms, sizes,
+            );
+            Some(line_of(what, answer))
+        }
     }
 }
 
-// The fresh account of a record.
-fn begin(what: Record, account: Account) -> Opened
-    requires { sound account ≡ true }
-    ensures answer { result ≡ opened_by what (fresh_rule what) account }
-    ensures keeps { sound result.account ≡ true }
+// A record's line is put behind what is gathered. Answers how much is gathered then.
+fn put_line(out: &mut [u8], at: usize, count: u64, line: Option<Line>) -> usize
+    requires { at + LINE ≤ length out.old }
+    ensures gathered { result ≤ length out.new }
+    ensures text { take result out.new ≡ take at out.old ++ shown_text count line }
 {
-    let fresh = tally::fresh_from(what);
-    let line = line_of(what, fresh);
-    if fresh.number == 0 {
-        let opened = fresh.account;
-        return Opened {
-            line,
-            begun: true,
-            account: opened,
-        };
-    }
-    Opened {
-        line,
-        begun: false,
-        account,
-    }
+    let mut lines = Out::new(out, at);
+    lines.put_line(count, line);
+    lines.len()
 }
 
 // Whether one more record is looked at.
-fn goes_on(ended: bool, count: u64, at: usize, room: usize) -> bool
-    requires { at ≤ room }
-    ensures { result ≡ goes_on ended count at room }
+#[tactic(auto, unfolding(crate::specs::Turns::goes_on))]
+fn goes_on(run: &Run, room: usize) -> bool
+    requires { run.now.at ≤ room }
+    ensures { result ≡ goes_on run.now.ended run.now.count run.now.at room }
 {
-    if ended {
-        return false;
-    }
-    if count == u64::MAX {
-        return false;
-    }
-    LINE <= room - at
+    !run.ended && run.count < u64::MAX && LINE <= room - run.at
 }
 
 // The records of some bytes, up to a bad one, one that is cut short, or the last whose line has room.
+// The lists stay slices: `Bench` asks for arrays as long as the entries and for four lists of at least MOST, which arrays in one struct would narrow.
 pub fn serve(
     buffer: &[u8],
     to: usize,
     out: &mut [u8],
-    run: Run,
+    mut run: Run,
     rx: &mut [u8],
     tx: &mut [u8],
     addresses: &[u64],
@@ -135,64 +147,31 @@ pub fn serve(
 ) -> Run
     requires { (run.from ≤ to) × (to ≤ length buffer.now) × (run.at ≤ length out.old) × (sound run.account ≡ true) × Bench (bench_as run.account rx.old tx.old (memory_as offsets.old lengths.old)) addresses.now (handles pools.old ids.old froms.old sizes.old) }
     ensures ran { ran_as result out.new rx.new tx.new (memory_as offsets.new lengths.new) ≡ ran (result.count - run.count) to buffer.now addresses.now (ran_as run out.old rx.old tx.old (memory_as offsets.old lengths.old)) }
-    ensures stops { goes_on result.ended result.count result.at (length out.new) ≡ true → end_of result.from to buffer.now ≡ 0 }
+    ensures stops { goes_on result.ended result.count result.at (length out.new) ≡ true → end_of result.from to buffer.now ≡ None }
     ensures keeps { (run.from ≤ result.from) × (result.from ≤ to) × (run.count ≤ result.count) × (result.at ≤ length out.new) × (sound result.account ≡ true) }
 {
-    let mut from = run.from;
-    let mut count = run.count;
-    let mut at = run.at;
-    let mut ended = run.ended;
-    let mut begun = run.begun;
-    let mut account = run.account;
-    while goes_on(ended, count, at, out.len()) {
-        let end = records::end_of(buffer, from, to);
-        if end == 0 {
+    while goes_on(&run, out.len()) {
+        let Some(end) = records::end_of(buffer, run.from, to) else {
             break;
-        }
-        let start = from + 2;
-        let what = records::decode(&buffer[start..end]);
-        let way = records::way_of(what, begun, account.sends);
-        let mut line = quiet_line(what, account);
-        match way {
-            Way::Bad => {
-                ended = true;
-            }
-            Way::Fresh => {
-                let fresh = begin(what, account);
-                line = fresh.line;
-                begun = fresh.begun;
-                account = fresh.account;
-            }
-            Way::Card => records::on_card(what, rx, tx),
-            Way::Account => {
-                let answer = stream::on_account(
-                    what,
-                    &buffer[start..end],
-                    account,
-                    rx,
-                    tx,
-                    addresses,
-                    offsets,
-                    lengths,
-                    pools,
-                    ids,
-                    froms,
-                    sizes,
-                );
-                line = line_of(what, answer);
-                account = answer.account;
-            }
-        }
-        at = lines::put_line(out, at, count, !ended, line);
-        from = end;
-        count += 1;
+        };
+        let line = turn(
+            &buffer[run.from + 2..end],
+            &mut run.begun,
+            &mut run.account,
+            rx,
+            tx,
+            addresses,
+            offsets,
+            lengths,
+            pools,
+            ids,
+            froms,
+            sizes,
+        );
+        run.ended = line.is_none();
+        run.at = put_line(out, run.at, run.count, line);
+        run.from = end;
+        run.count += 1;
     }
-    Run {
-        from,
-        count,
-        at,
-        ended,
-        begun,
-        account,
-    }
+    run
 }

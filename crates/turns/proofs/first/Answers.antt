@@ -12,4 +12,4 @@ unfolding fresh_answer fresh_call fresh_verdict in_range is_size some
 in-range = refl
 
 pub returns : goal.returns
-returns c = (refl, refl, refl, c.fresh-fresh.ensures.keeps (rw c.fresh-fresh.ensures.answer in-range))
+returns c = (refl, refl, refl, c.fresh.ensures.keeps in-range)
