@@ -92,7 +92,8 @@ ends-run false line true e = refl
 ends-run false line false e = e
 
 -- what a record's turn and its line leave
-pub shown-as : (w : Ran) (end : ℕ) (t : Turn) {ended : Bool} {text : List ℕ} {left : Stand} → ended ≡ not t.good → text ≡ w.text ++ shown_text w.count (seen t) → left ≡ t.left
+pub shown-as : (w : Ran) (end : ℕ) (t : Turn) {ended : Bool} {text : List ℕ} {left : Stand} → ended ≡ not t.good
+    → text ≡ w.text ++ shown_text w.count (seen t) → left ≡ t.left
     → placed end (w.count + 1) ended text left ≡ shown end t w
 shown-as w end t e f g = rw (e, f, g, shown-line w.count t.good t.line)
 

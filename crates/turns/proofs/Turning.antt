@@ -48,7 +48,9 @@ module _ (b addresses : List ℕ) (s : Stand) {d : Option Record} (read : d ≡ 
 
   module _ {r : Record} (may : Some r ≡ admitted s.begun s.state.account.sends d) (way : shape (Some r) ≡ way_of s.begun s.state.account.sends d) where
     turned : turn_rule b addresses s ≡ way_turn (shape (Some r)) (Some r) b addresses s
-    turned = let e : record_of b ≡ Some r = sym read ∙ came s.begun s.state.account.sends may in by_way b addresses s (Some r) (rw read at way) ∙ rw e refl
+    turned =
+        let e : record_of b ≡ Some r = sym read ∙ came s.begun s.state.account.sends may in
+        by_way b addresses s (Some r) (rw read at way) ∙ rw e refl
 
     pub fresh-turn : {entries size sends : ℕ} → r ≡ Fresh entries size sends
         → turn_rule b addresses s ≡ fresh_turn (opened_by (Some (Fresh entries size sends)) (fresh_answer entries size sends) s.state.account) s.state

@@ -49,7 +49,8 @@ loop-end-preserved c =
     let t : Turn = turn_rule (rest_of h.run.from end c.args.buffer.now) c.args.addresses.now now.stand in
     let left = c.turn-line.ensures.left in
     let kept = c.turn-line.auto in
-    let lists : Same (handles _ _ _ _) (handles h.pools h.ids h.froms h.sizes) = record { pools = kept.pools; ids = kept.ids; offsets = kept.froms; lengths = kept.sizes } in
+    let lists : Same (handles _ _ _ _) (handles h.pools h.ids h.froms h.sizes) =
+    record { pools = kept.pools; ids = kept.ids; offsets = kept.froms; lengths = kept.sizes } in
     let ended = ends-run t.good t.line _ (rw c.turn-line.ensures.line at c.is_none.ensures) in
     let text = rw c.turn-line.ensures.line at c.put_line.ensures.text in
     record {

@@ -26,7 +26,8 @@ pub returns-in-Fresh-clause-line : goal.returns-in-Fresh-clause-line
 returns-in-Fresh-clause-line c =
     let t = fresh-turn c.args.rest.now c.args.addresses.now _ c.decode.ensures c.in_ok-what.ensures.admitted c.in_ok-what.ensures.way c.in-Fresh.is in
     let r = Some (Fresh c.in-Fresh.entries c.in-Fresh.size c.in-Fresh.sends) in
-    ap Some (c.line_of.ensures (fresh_answer c.in-Fresh.entries c.in-Fresh.size c.in-Fresh.sends).account ∙ ap (line_of r) c.fresh-answer.ensures.answer) ∙ sym (ap seen t)
+    let fresh = fresh_answer c.in-Fresh.entries c.in-Fresh.size c.in-Fresh.sends in
+    ap Some (c.line_of.ensures fresh.account ∙ ap (line_of r) c.fresh-answer.ensures.answer) ∙ sym (ap seen t)
 
 pub returns-in-Fresh-clause-left : goal.returns-in-Fresh-clause-left
 returns-in-Fresh-clause-left c =
@@ -44,7 +45,8 @@ returns-in-Card-clause-line c =
 pub returns-in-Card-clause-left : goal.returns-in-Card-clause-left
 returns-in-Card-clause-left c =
     let t = card-turn c.args.rest.now c.args.addresses.now _ c.decode.ensures c.in_ok-what.ensures.admitted c.in_ok-what.ensures.way c.in-Card.is in
-    ap (λ (w : Rings). stand_as c.args.begun.now (bench_as c.args.account.now w.rx w.tx (memory_as c.args.offsets.now c.args.lengths.now))) c.on_card.ensures
+    let h = c.args in
+    ap (λ (w : Rings). stand_as h.begun.now (bench_as h.account.now w.rx w.tx (memory_as h.offsets.now h.lengths.now))) c.on_card.ensures
     ∙ sym (ap (λ (t : Turn). t.left) t)
 
 -- ---- a call on the account
@@ -52,7 +54,8 @@ returns-in-Card-clause-left c =
 pub returns-in-Call-clause-line : goal.returns-in-Call-clause-line
 returns-in-Call-clause-line c =
     let t = call-turn c.args.rest.now c.args.addresses.now _ c.decode.ensures c.in_ok-what.ensures.admitted c.in_ok-what.ensures.way c.in-Call.is in
-    ap Some (c.line_of-in-Call.ensures c.on_account-answer.new.account ∙ ap (λ (o : Outcome). line_of (Some (Call c.in-Call.call)) o.answer) c.on_account-answer.ensures.answer) ∙ sym (ap seen t)
+    let told = ap (λ (o : Outcome). line_of (Some (Call c.in-Call.call)) o.answer) c.on_account-answer.ensures.answer in
+    ap Some (c.line_of-in-Call.ensures c.on_account-answer.new.account ∙ told) ∙ sym (ap seen t)
 
 pub returns-in-Call-clause-left : goal.returns-in-Call-clause-left
 returns-in-Call-clause-left c =
