@@ -28,9 +28,6 @@ pub record Same (l k : Handles) : Type 0 where
   pub offsets : length l.offsets ≡ length k.offsets
   pub lengths : length l.lengths ≡ length k.lengths
 
-pub as_long : {l k : List ℕ} → l ≡ k → length l ≡ length k
-as_long e = ap length e
-
 pub same : (l : Handles) → Same l l
 same l = record { pools = refl; ids = refl; offsets = refl; lengths = refl }
 
