@@ -158,6 +158,7 @@ fn shorten(handle: Handle, len: usize) -> Handle
 // ---- the counts
 
 // How many of the first ids are recorded as out.
+#[tactic(auto, using(crate::proofs::Counted::counts_occur))]
 fn count_out(entries: usize, hands: &[u8; ENTRIES]) -> usize
     requires { entries ≤ ENTRIES }
     ensures { result ≡ occurs HAND-OUT (take entries hands.now) }

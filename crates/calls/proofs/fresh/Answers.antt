@@ -1,5 +1,6 @@
 -- `calls::fresh` meets its contract: refused where a number is out of its range, and else opened. Assumes nothing.
-use mathlib.Core.Path.{◌≡◌, sym, ap, ◌∙◌}
+use mathlib.Core.Path.{◌≡◌, refl, sym, ap, ◌∙◌}
+use Rattle.rules.specs.Account.{opened}
 use Rattle.rules.specs.Sound.{in_range}
 use Rattle.rules.specs.Refusals.{size_given, fresh_verdict}
 use Rattle.rules.specs.Packets.{fresh_call}
@@ -16,8 +17,13 @@ in-range c =
 
 pub returns-then-not-in_range : goal.returns-then-not-in_range
 unfolding fresh_verdict fresh_call
-returns-then-not-in_range c = rw (in-range (goal.at.returns-then-not-in_range c).After-in_range ∙ c.if-not-in_range.true)
+returns-then-not-in_range c = rw (in-range (goal.at.returns-then-not-in_range c).After-in_range ∙ c.if-not-in_range.true) refl
 
 pub returns : goal.returns
 unfolding fresh_verdict fresh_call
-returns c = rw (c.«open».ensures, in-range (goal.at.returns c).After-in_range ∙ c.if-not-in_range.false, c.size_given-given.ensures)
+returns c =
+    let size : opened c.args.pool c.args.entries c.size_given-given.result c.args.receives c.args.sends ≡ opened c.args.pool c.args.entries (size_given c.args.size) c.args.receives c.args.sends
+    = ap (λ k. opened c.args.pool c.args.entries k c.args.receives c.args.sends) c.size_given-given.ensures
+    in
+    let made : c.«open».result ≡ opened c.args.pool c.args.entries (size_given c.args.size) c.args.receives c.args.sends = c.«open».ensures ∙ size in
+    rw (in-range (goal.at.returns c).After-in_range ∙ c.if-not-in_range.false, made) refl

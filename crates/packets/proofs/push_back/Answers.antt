@@ -1,4 +1,5 @@
 -- `packets::push_back` meets its contract: the stack has room for an id that is out, and what the push gave is the account's stack. Assumes nothing.
+use mathlib.Core.Path.{refl}
 use native.Mathlib.Omega.{arith}
 use borrow.Author.Rules.{rules}
 use Rattle.rules.specs.Sound.{Full}
@@ -9,7 +10,7 @@ use Rattle.packets.proofs.push_back.Goals as goal
 
 pub returns : goal.returns
 unfolding released
-returns c = rw c.push-account.ensures
+returns c = rw c.push-account.ensures refl
 
 pub push-account-requires : goal.push-account-requires
 push-account-requires c stack =

@@ -2,10 +2,9 @@
 use mathlib.Core.Path.{◌≡◌, sym, ap, ◌∙◌}
 use Prim.Native.Nat.{ℕ, ◌<◌}
 use mathlib.Core.List.{List, [], ◌∷◌}
-use native.Mathlib.Omega.{arith}
 use lib.ListN.{get_or}
 use Rattle.std.proofs.lemmas.List.{get_or-map}
-use Rattle.std.proofs.lemmas.Grind.{common_steps}
+use borrow.Author.Tests.{ltb-true}
 use Rattle.card.specs.declared.Register.{Register}
 use Rattle.card.specs.declared.Register.TheVariants.{GPRC, GPTC, GORCL, GORCH, GOTCL, GOTCH}
 use Rattle.card.specs.Registers.{register_row}
@@ -23,6 +22,7 @@ row_read made r d h e = rw (← e) (sym (get_or-map (λ x. Read (plain (register
 pub returns-in-Some : goal.returns-in-Some
 unfolding counters_call
 returns-in-Some c =
-    let action : c.read.result ≡ get_or counter_actions c.args.made Done
-    = c.read.ensures ∙ row_read c.args.made c.in-Some.field-0.now c.in-Some.field-0.now (grind (arith, common_steps)) (grind (arith, common_steps)) in
+    let stands : c.in-Some.field-0.now ≡ get_or registers c.args.made c.in-Some.field-0.now = c.in-Some.ensures.lookup.1 in
+    let below : c.args.made < 6 = ltb-true _ _ (sym c.in-Some.ensures.lookup.0) in
+    let action : c.read.result ≡ get_or counter_actions c.args.made Done = c.read.ensures ∙ row_read c.args.made _ _ below (sym stands) in
     c.guard.ensures ∙ ap (guarded c.args.map) action
