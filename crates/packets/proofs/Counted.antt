@@ -1,11 +1,11 @@
 -- How often a number stands in a list, counted by a test.
-use Prim.Native.Nat.{ℕ, ◌+◌}
+use Prim.Native.Nat.{ℕ}
 use mathlib.Core.Path.{◌≡◌, refl, sym, ◌∙◌}
-use mathlib.Core.List.{List, ◌∷◌}
-use Rattle.std.proofs.Common.{rules, ◌==◌, cond}
+use mathlib.Core.List.{List}
+use Rattle.std.proofs.Common.{rules, ◌==◌}
 use Rattle.std.specs.List.{count_by}
 use Rattle.std.proofs.lemmas.List.Recursion.{is_count_by}
-use Rattle.laws.specs.Occurs.{ind, occurs}
+use Rattle.laws.specs.Occurs.{occurs}
 
 occurs-counts : (x : ℕ) (l : List ℕ) → occurs x l ≡ count_by (λ y. y == x) l
 occurs-counts x = is_count_by (occurs x) (λ y. y == x) refl (λ y l. search rules)
