@@ -13,6 +13,7 @@ const DROPPED: usize = 4096;
 fn skip<R: Read>(reader: &mut R, count: u64) -> Result<()> {
     let mut buffer = [0u8; DROPPED];
     let mut left = count;
+    // It steps by what is dropped at once, and not by one.
     while 0 < left {
         let asked = left.min(DROPPED as u64) as usize;
         if reading::read_full(reader, &mut buffer[..asked])? < asked {

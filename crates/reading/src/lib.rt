@@ -16,6 +16,7 @@ pub fn read_full<R: Read>(input: &mut R, part: &mut [u8]) -> Result<usize>
     ensures err { OnErr result ((count : ℕ) × Consumes (R.remaining input.old) (R.remaining input.new) (take count part.new)) }
 {
     let mut done = 0;
+    // It steps by what a read gave, and not by one.
     while done < part.len() {
         let count = input.read(&mut part[done..])?;
         if count == 0 {

@@ -1,6 +1,7 @@
 // What the bench program's records answer and leave on the bench's state. The account is known to be sound, so no record pays a test of it. What
 // their bytes mean, and what the card's records do to the rings, stands in `records`; what each hand has, the last handle of each id, and what the
-// records that need no ring answer stand in `tally`. Document 01, "The bench program".
+// records that need no ring answer stand in `tally`. Document 01, "The bench program". What the bench lends travels as slices: out of a struct of them a part
+// of one can't be lent beside parts of others, which the language's proofs do not cover.
 
 #![tactic(auto)]
 

@@ -1,5 +1,6 @@
 // What the bench's lines say: what each hand has, the last handle of each id, and what the records that need no ring answer. The account of a take
-// or a release is known to be sound, so neither pays a test of it. Document 01, "The bench program".
+// or a release is known to be sound, so neither pays a test of it. Document 01, "The bench program". Offsets and lengths are two lists: the bench's turns,
+// which docs/PROMISES.md names, are lent them so.
 
 #![tactic(auto)]
 

@@ -108,7 +108,7 @@ fn turn(
     }
 }
 
-// A record's line is put behind what is gathered. Answers how much is gathered then.
+// A record's line is put behind what is gathered. Answers how much is gathered then. `out` and `at` are those of `serve`, whose contract speaks of them.
 fn put_line(out: &mut [u8], at: usize, count: u64, line: Option<Line>) -> usize
     requires { at + LINE ≤ length out.old }
     ensures gathered { result ≤ length out.new }
@@ -150,6 +150,7 @@ pub fn serve(
     ensures stops { goes_on result.ended result.count result.at (length out.new) ≡ true → end_of result.from to buffer.now ≡ None }
     ensures keeps { (run.from ≤ result.from) × (result.from ≤ to) × (run.count ≤ result.count) × (result.at ≤ length out.new) × (sound result.account ≡ true) }
 {
+    // It steps from record to record, each as long as its bytes say.
     while goes_on(&run, out.len()) {
         let Some(end) = records::end_of(buffer, run.from, to) else {
             break;
