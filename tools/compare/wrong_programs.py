@@ -11,7 +11,7 @@ REFUSED = re.compile(r"refused, as it must be: (?P<place>.*)$")
 # how a place says it
 SHOWN = re.compile(
     r"differ only where one has|first differ where one has|the two types are `|expected type `|one side reads `"
-    r"|`omega`: the goal does not follow from what it read|^note: \S+ it is not proved that|the facts known there allow values at which this goal is false"
+    r"|`omega`: the goal does not follow from what it read|^note: \S+ it is not proved that"
 )
 
 

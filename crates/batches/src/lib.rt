@@ -28,7 +28,7 @@ fn take_many(
     requires { Takable most account.old.free.ids account.old.free.depth (handles pools.old ids.old offsets.old lengths.old) }
     ensures { batch_end account.old (take_many account.old.pool len most (taking_of account.old (handles pools.old ids.old offsets.old lengths.old))) ≡ batched (batch_as (Ok most) account.new) (handles pools.new ids.new offsets.new lengths.new) }
 {
-    // The count is the place in the lists, so it is counted.
+    // By number: it is a place of the four lists, so that an iterator over one would be counted too, and is no plainer.
     for count in 0..most {
         let handle = packets::take_top(account, len);
         lists::put(pools, ids, offsets, lengths, count, handle);

@@ -310,7 +310,7 @@ pub fn vector_set(direction: Direction, queue: usize, vector: u32) -> u32
     (vector | IVAR_VALID) << vector_shift(direction, queue)
 }
 
-// The link's speed in Mbit/s by LINKS, 0 where there is none.
+// The link's speed in Mbit/s by LINKS, 0 where there is none: "else 0", as document 01 has it.
 #[tactic(auto, unfolding(crate::specs::Masks::link_speed))]
 pub fn link_speed(value: u32) -> u32
     ensures { result ≡ link_speed value }

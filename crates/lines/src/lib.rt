@@ -9,7 +9,7 @@ use tally::Tally;
 // The most bytes of a line: eight numbers, each of at most 20 digits, with a blank or the line's end.
 pub const LINE: usize = 168;
 
-// What a record's line shows behind the record's number.
+// What a record's line shows behind the record's number: document 01's numbers of the kind and of the answer, as they are printed.
 #[derive(Clone, Copy)]
 pub struct Line {
     pub kind: u64,
@@ -18,8 +18,8 @@ pub struct Line {
     pub tally: Tally,
 }
 
-// A buffer that is lent, and how many of its bytes are gathered. What is put goes behind these. That these stand within the buffer is no ghost field,
-// which no proof covers beside a `&mut`.
+// A buffer that is lent, and how many of its bytes are gathered. What is put goes behind these. That these stand within the buffer was
+// tried as a ghost field, which no proof covers beside a `&mut`.
 #[derive(Drop)]
 pub struct Out<'a> {
     bytes: &'a mut [u8],

@@ -174,13 +174,13 @@ fn send_counts(sends: usize, clean: &[usize; SENDS], tx: &[usize; SENDS]) -> [us
     requires { queues_placed sends clean.now tx.now ≡ true }
     ensures { result ≡ counts_of sends clean.now tx.now }
 {
-    let mut counts = [0usize; SENDS];
-    for q in 0..SENDS {
+    std::array::from_fn(|q| {
         if q < sends {
-            counts[q] = lists::pending(tx[q], clean[q]);
+            lists::pending(tx[q], clean[q])
+        } else {
+            0
         }
-    }
-    counts
+    })
 }
 
 // How many buffers each hand has.

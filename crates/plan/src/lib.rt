@@ -39,8 +39,8 @@ pub struct Setup {
     pub rings: [u64; RINGS],
 }
 
-// An item of the sequence: registers are addresses. A type beside parts::Template, with its End, since the theorem past-link of startup_laws
-// and startup's `is_end` name End as an item, and an item has numbers where a template has a register and a Value.
+// An item of the sequence: registers are addresses. A type beside parts::Template, since an item has numbers where a template has a register and a Value; one
+// type over both kinds of field would name every field's type at each use, so it is no plainer. End is an item, as the definitions have it.
 #[derive(Clone, Copy, PartialEq, Eq, Debug)]
 pub enum Item {
     End,

@@ -77,20 +77,20 @@ module _ (a : Account) where
     send-known lists = grind (arith, handles-known a lists 0 (length lists.ids))
 
 -- so is each answer of a history
-pub step-known : {a b : Account} (s : Step a b) → Known (verdict_by s)
+pub answer-known : {a b : Account} (s : Step a b) → Known (verdict_by s)
 unfolding counts_call take_call batch_call release_call truncate_call clone_call start_call receive_call send_call
-step-known {a} (h.counts r e) = rw (said (λ (o : Counts). o.verdict) (counts_verdict a) refl (λ why. refl) e) (counts-known a)
-step-known {a} (h.take len r e) = rw (said (λ (o : Taken). o.verdict) (take_verdict a len) refl (λ why. refl) e) (take-known a len)
-step-known {a} (h.batch n len lists left r e) = rw (said (λ (o : Batched). o.answer.verdict) (batch_verdict a n lists) refl (λ why. refl) e) (batch-known a n lists)
-step-known {a} (h.release handle r e) = rw (said (λ (o : Kept). o.verdict) (handle_verdict a handle) refl (λ why. refl) e) (handle-known a handle)
-step-known {a} (h.truncate handle len r e) = rw (said (λ (o : Truncated). o.verdict) (handle_verdict a handle) refl (λ why. refl) e) (handle-known a handle)
-step-known {a} (h.clone handle memory left r e) =
+answer-known {a} (h.counts r e) = rw (said (λ (o : Counts). o.verdict) (counts_verdict a) refl (λ why. refl) e) (counts-known a)
+answer-known {a} (h.take len r e) = rw (said (λ (o : Taken). o.verdict) (take_verdict a len) refl (λ why. refl) e) (take-known a len)
+answer-known {a} (h.batch n len lists left r e) = rw (said (λ (o : Batched). o.answer.verdict) (batch_verdict a n lists) refl (λ why. refl) e) (batch-known a n lists)
+answer-known {a} (h.release handle r e) = rw (said (λ (o : Kept). o.verdict) (handle_verdict a handle) refl (λ why. refl) e) (handle-known a handle)
+answer-known {a} (h.truncate handle len r e) = rw (said (λ (o : Truncated). o.verdict) (handle_verdict a handle) refl (λ why. refl) e) (handle-known a handle)
+answer-known {a} (h.clone handle memory left r e) =
     rw (said (λ (o : Cloned). o.answer.verdict) (clone_verdict a handle (length memory)) refl (λ why. refl) e) (clone-known a handle (length memory))
-step-known {a} (h.view handle memory part e) = view-known a handle (length memory.bytes)
-step-known {a} (h.headroom handle asked memory part e) = headroom-known a handle asked (length memory.bytes)
-step-known {a} (h.start q ring addresses left r e) =
+answer-known {a} (h.view handle memory part e) = view-known a handle (length memory.bytes)
+answer-known {a} (h.headroom handle asked memory part e) = headroom-known a handle asked (length memory.bytes)
+answer-known {a} (h.start q ring addresses left r e) =
     rw (said (λ (o : AfterStart). o.answer.verdict) (start_verdict a q ring addresses) refl (λ why. refl) e) (start-known a q ring addresses)
-step-known {a} (h.receive q ring addresses n lists left filled r e) =
+answer-known {a} (h.receive q ring addresses n lists left filled r e) =
     rw (said (λ (o : AfterReceive). verdict_of o.answer.ended) (receive_verdict a q ring addresses n lists) refl (λ why. refl) e) (receive-known a q ring addresses n lists)
-step-known {a} (h.send q ring addresses lists left r e) =
+answer-known {a} (h.send q ring addresses lists left r e) =
     rw (said (λ (o : AfterSend). o.answer.verdict) (send_verdict a q ring addresses lists) refl (λ why. refl) e) (send-known a q ring addresses lists)

@@ -20,8 +20,8 @@ use Rattle.rules.specs.Receive.{start_call, receive_call}
 use Rattle.rules.specs.Send.{send_call}
 
 -- every answer is done or a number of the table (Known.antt: of an account's call, none of the registers')
-pub answer-known : (v : Verdict) → (v ≡ Done) ⊎ ((1 ≤ number v) × (number v ≤ 12))
-answer-known v = grind arith
+pub number-known : (v : Verdict) → (v ≡ Done) ⊎ ((1 ≤ number v) × (number v ≤ 12))
+number-known v = grind arith
 
 module _ (a : Account) (why : Refusal) where
   pub take-refused : (len : ℕ) → take_verdict a len ≡ Refused why → take_call a len ≡ record { verdict = Refused why; handle = no_handle; account = a }

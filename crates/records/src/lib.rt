@@ -180,14 +180,14 @@ pub fn admit(what: Option<Record>, begun: bool, sends: usize) -> Option<Record>
 // ---- the card
 
 // The card puts a frame into a slot of the receive ring.
+#[tactic(auto, unfolding(crate::specs::Card::frame_rule))]
 fn put_frame(ring: &mut [u8], slot: usize, status: u32, length: u16)
     requires { InRing slot ring.old }
     ensures { ring.new ≡ frame_rule slot status length ring.old }
 {
     let at = slot * SLOT_BYTES;
-    words::write(ring, at + 8, 4, status as u64);
-    ring[at + 12] = (length % 0x100) as u8;
-    ring[at + 13] = (length / 0x100) as u8;
+    words::write(ring, at + 8, 4, u64::from(status));
+    words::write(ring, at + 12, 2, u64::from(length));
 }
 
 // The card sets the done bit of a slot of a send ring.

@@ -152,7 +152,8 @@ fn on_lists<W: Write>(
     lists.pack(bytes)
 }
 
-// A batch, a start, a receive or a send: what the record lends is cut here, out of arrays, since the host of `replay_host` has no allocator.
+// A batch, a start, a receive or a send: what the record lends is cut here, out of arrays, since the function that C calls is lent
+// no allocator.
 #[inline(never)]
 pub fn call<W: Write>(
     output: &mut W,

@@ -1,6 +1,6 @@
-// The loops over rings, on lent arrays and numbers: start, receive, cleaning, send. A host that keeps the arrays itself calls them without
-// a copy. Lists of handles stay parallel slices of numbers: document 01, "Form by location", has the covered functions on those.
-// Ported from start_rx_queue, rx_batch, clean_tx_queue and tx_batch of src/ixgbe.rs.
+// The loops over the receive ring, on lent arrays and numbers: start and receive. They take arrays and numbers, and no account, since docs/PROMISES.md names
+// `fill` and `receive` with contracts on those. Lists of handles stay parallel slices of numbers: document 01, "Form by location", has the covered functions on those.
+// Ported from start_rx_queue and rx_batch of src/ixgbe.rs.
 
 #![tactic(auto)]
 
@@ -41,7 +41,7 @@ fn fill_slot(
 }
 
 // Every slot of the ring gets a buffer from the top of the stack. Answers the stack's new depth.
-// The loop goes over slot numbers, not slots: `fill_rule` counts them, and each is a place of the ring too.
+// The loop goes over slot numbers: each is a place of the ring and of the slots, so that an iterator over one would be counted too, and is no plainer.
 pub fn fill(
     ring: &mut [u8],
     addresses: &[u64],

@@ -1,5 +1,5 @@
-// The loops over send rings, on lent arrays and numbers: cleaning, the test of a list of handles, and sending. A host that keeps the
-// arrays itself calls them without a copy. Ported from clean_tx_queue and tx_batch of src/ixgbe.rs.
+// The loops over send rings, on lent arrays and numbers: cleaning, the test of a list of handles, and sending. They take arrays
+// and numbers, and no account, since docs/PROMISES.md names `clean`, `good_run` and `send` with contracts on those. Ported from clean_tx_queue and tx_batch of src/ixgbe.rs.
 
 #![tactic(auto)]
 
@@ -30,7 +30,7 @@ fn give_back(
     requires { Givable n sent.now q clean depth }
     ensures { cleaning_as stack.new (depth + n) hands.new result ≡ give_back sent.now q n (cleaning_as stack.old depth hands.old clean) }
 {
-    // By number: the slot is read at it, and the place on the stack is written.
+    // By number: it is a place of the slots, round the ring, and one of the stack, so that an iterator over one would be counted too, and is no plainer.
     for i in 0..n {
         let id = sent[q * SLOTS + (clean + i) % SLOTS];
         stack[depth + i] = id;
@@ -181,7 +181,7 @@ pub fn send(
     requires { Writable n q tx addresses.now ring.old (handles pools.now ids.now offsets.now lengths.now) }
     ensures { sending_as hands.new sent.new result ring.new n ≡ send_rule q addresses.now (handles pools.now ids.now offsets.now lengths.now) n (sending_as hands.old sent.old tx ring.old 0) }
 {
-    // By number: the slot that is written follows from it.
+    // By number: it is a place of the four lists and one of the ring, so that an iterator over one would be counted too, and is no plainer.
     for count in 0..n {
         let handle = lists::at(pools, ids, offsets, lengths, count);
         let slot = (tx + count) % SLOTS;

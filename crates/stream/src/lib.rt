@@ -146,7 +146,7 @@ fn send(
 }
 
 // What a call answers and leaves.
-pub fn on_account(
+pub fn on_call(
     call: Call,
     rest: &[u8],
     account: &mut Account,

@@ -21,7 +21,7 @@ use rules::Account;
 use tally::Answer;
 
 // Where the turns stand: the next record's first byte and its number, how many bytes of lines are gathered, whether a bad record has ended the run,
-// whether a fresh account has answered 0, and the account.
+// whether a fresh account has answered 0, and the account. The two flags are those that the contract of `serve` speaks of.
 #[derive(Drop)]
 pub struct Run {
     pub from: usize,
@@ -100,7 +100,7 @@ fn turn(
             Some(line_of(what, tally::answered(Ok(0), account)))
         }
         Record::Call(call) => {
-            let answer = stream::on_account(
+            let answer = stream::on_call(
                 call, rest, account, rx, tx, addresses, offsets, lengths, pools, ids, froms, sizes,
             );
             Some(line_of(what, answer))
@@ -129,7 +129,8 @@ fn goes_on(run: &Run, room: usize) -> bool
 }
 
 // The records of some bytes, up to a bad one, one that is cut short, or the last whose line has room.
-// The lists stay slices: `Bench` asks for arrays as long as the entries and for four lists of at least MOST, which arrays in one struct would narrow.
+// What is lent stays slices: `Bench` asks of the four lists for at least MOST places, which owned arrays would narrow, and out of a struct of slices a part of
+// one can't be lent beside parts of others, which the language's proofs do not cover.
 pub fn serve(
     buffer: &[u8],
     to: usize,

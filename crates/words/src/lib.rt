@@ -1,4 +1,5 @@
 // Little-endian words at a place of a byte slice, and the words of a ring's slots. Ported from the descriptor accesses of src/ixgbe.rs.
+// That a slot is in its ring is a clause: a ring is a lent slice, and a struct of slice and slot would be made for each access, which is no plainer.
 
 #![tactic(auto)]
 

@@ -54,11 +54,11 @@ returns-in-Card-clause-left c =
 pub returns-in-Call-clause-line : goal.returns-in-Call-clause-line
 returns-in-Call-clause-line c =
     let t = call-turn c.args.rest.now c.args.addresses.now _ c.decode.ensures c.in_ok-what.ensures.admitted c.in_ok-what.ensures.way c.in-Call.is in
-    let told = ap (λ (o : Outcome). line_of (Some (Call c.in-Call.call)) o.answer) c.on_account-answer.ensures.answer in
-    ap Some (c.line_of-in-Call.ensures c.on_account-answer.new.account ∙ told) ∙ sym (ap seen t)
+    let told = ap (λ (o : Outcome). line_of (Some (Call c.in-Call.call)) o.answer) c.on_call-answer.ensures.answer in
+    ap Some (c.line_of-in-Call.ensures c.on_call-answer.new.account ∙ told) ∙ sym (ap seen t)
 
 pub returns-in-Call-clause-left : goal.returns-in-Call-clause-left
 returns-in-Call-clause-left c =
     let t = call-turn c.args.rest.now c.args.addresses.now _ c.decode.ensures c.in_ok-what.ensures.admitted c.in_ok-what.ensures.way c.in-Call.is in
-    ap (λ (o : Outcome). stand_as c.args.begun.now (bench_as o.answer.account o.rx o.tx o.memory)) c.on_account-answer.ensures.answer
+    ap (λ (o : Outcome). stand_as c.args.begun.now (bench_as o.answer.account o.rx o.tx o.memory)) c.on_call-answer.ensures.answer
     ∙ sym (ap (λ (t : Turn). t.left) t)

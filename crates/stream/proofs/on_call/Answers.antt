@@ -1,4 +1,4 @@
--- `stream::on_account` meets its contract: each record by its name, and its account stays sound. Assumes nothing.
+-- `stream::on_call` meets its contract: each record by its name, and its account stays sound. Assumes nothing.
 use Prim.Native.Nat.{ℕ, ◌≤◌}
 use mathlib.Core.Path.{refl, sym, ap}
 use lib.ListN.{length}
@@ -13,8 +13,8 @@ use Rattle.stream.specs.Bench.{StartLeft, ReceiveLeft, SendLeft}
 use Rattle.stream.proofs.Memory.{room-kept}
 use Rattle.stream.proofs.Sized.{send-sized}
 use Rattle.stream.proofs.Keeps.{start-answer, receive-answer, send-answer}
-use Rattle.stream.proofs.on_account.Goals as goal
-use Rattle.stream.proofs.on_account.Goals.{After-whole}
+use Rattle.stream.proofs.on_call.Goals as goal
+use Rattle.stream.proofs.on_call.Goals.{After-whole}
 
 -- ---- before the call
 
