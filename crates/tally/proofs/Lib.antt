@@ -1,2 +1,3 @@
 pub mod Keeps
 pub mod Counts
+pub mod Rest

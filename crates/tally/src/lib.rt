@@ -49,8 +49,8 @@ fn all_pending(sends: usize, clean: &[usize; SENDS], tx: &[usize; SENDS]) -> usi
     ensures { (result ≡ pending_of sends clean.now tx.now) × (result ≤ sends * SLOTS) }
 {
     let mut all = 0;
-    for q in 0..sends {
-        all += lists::pending(tx[q], clean[q]);
+    for (&tx, &clean) in tx[..sends].iter().zip(clean) {
+        all += lists::pending(tx, clean);
     }
     all
 }
