@@ -73,7 +73,7 @@ pub fn show_forged<W: Write>(output: &mut W, forge: Forge) -> Result<()> {
     show(output, forge.place)
 }
 
-// ---- answers
+// ---- answers, in the words of docs/REPLAY.md: they are this program's format, and no `Display` of the core's types
 
 // Document 01's number of a refusal, and after a 4 the index.
 pub fn show_refusal<W: Write>(output: &mut W, why: Refusal) -> Result<()> {

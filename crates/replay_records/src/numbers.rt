@@ -1,6 +1,6 @@
 // Numbers as bytes hold them, little-endian, and digests of them.
 
-// A type of numbers.
+// A type of numbers. Its impls are written out, since the gate refuses those that a macro of this repository writes.
 pub trait Number: Copy {
     // The bytes of one.
     const WIDTH: usize;
@@ -71,7 +71,7 @@ impl Number for usize {
     }
 }
 
-// The number that some bytes are.
+// The number that some bytes are, any number of them: `words::read` asks for at most 8.
 pub fn value_of(bytes: &[u8]) -> u64 {
     bytes
         .iter()
