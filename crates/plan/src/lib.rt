@@ -136,6 +136,7 @@ pub fn item_at(setup: Setup, place: usize) -> Item
     ensures { result ≡ get_or (sequence setup) place Item.End }
 {
     let mut left = place;
+    // By number: the table is private to `parts`, whose `part_at` and `template_at` take a part's number.
     for i in 0..PARTS {
         let Part { times, len } = part_at(i);
         let n = how_often(&setup, times) * len;
@@ -153,6 +154,7 @@ pub fn count(setup: Setup) -> usize
     ensures { (result ≡ length (sequence setup)) × (result ≤ ITEMS) }
 {
     let mut sum = 0;
+    // By number, as in `item_at`: a sum over `(0..PARTS).map(part_at)` counts the parts too, and asks for the bounds of the products besides.
     for i in 0..PARTS {
         let Part { times, len } = part_at(i);
         sum += how_often(&setup, times) * len;

@@ -125,6 +125,7 @@ fn in_places(account: &Account) -> bool
     if account.started && !mark_all(account, &mut seen, &account.slots, HAND_RECEIVE) {
         return false;
     }
+    // A loop: a closure under `all` would write `seen`, and after `all` nothing is known of `seen`, which `all_settled` reads.
     for q in 0..account.sends {
         if !mark_queue(account, &mut seen, q) {
             return false;

@@ -35,11 +35,11 @@ fn remember(
     requires { (length offsets.old ≡ ENTRIES) × (length lengths.old ≡ ENTRIES) × (count ≤ length ids.now) × (count ≤ length froms.now) × (count ≤ length sizes.now) }
     ensures { memory_as offsets.new lengths.new ≡ remember_all ids.now froms.now sizes.now 0 count (memory_as offsets.old lengths.old) }
 {
-    for i in 0..count {
-        let at = ids[i] as usize;
+    for ((&id, &from), &size) in ids[..count].iter().zip(froms).zip(sizes) {
+        let at = id as usize;
         if at < ENTRIES {
-            offsets[at] = froms[i];
-            lengths[at] = sizes[i];
+            offsets[at] = from;
+            lengths[at] = size;
         }
     }
 }
@@ -58,6 +58,7 @@ fn gather(
     requires { (6 + 2 * count ≤ length rest.now) × (length offsets.now ≡ ENTRIES) × (length lengths.now ≡ ENTRIES) × Room count (handles pools.old ids.old froms.old sizes.old) }
     ensures { handles (take count pools.new) (take count ids.new) (take count froms.new) (take count sizes.new) ≡ send_lists rest.now count (memory_as offsets.now lengths.now) }
 {
+    // By number: it is the place of the id's bytes too, and a zip of the four lists with the bytes nests five deep.
     for i in 0..count {
         let id = words::read(rest, 6 + 2 * i, 2) as u16;
         let handle = tally::last_handle(id, offsets, lengths);
