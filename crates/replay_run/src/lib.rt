@@ -159,6 +159,7 @@ pub fn run<R: Read, W: Write>(input: &mut R, output: &mut W, bytes: &mut [u8]) -
         account: replay_calls::blank(),
         registers: Registers::blank(),
     };
+    // The number of the line, which is printed.
     for number in 1..u64::MAX {
         match turn(input, output, number, &mut held, &mut buffer, bytes) {
             Ok(true) => {}
