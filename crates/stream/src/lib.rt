@@ -58,7 +58,7 @@ fn gather(
     requires { (6 + 2 * count ≤ length rest.now) × (length offsets.now ≡ ENTRIES) × (length lengths.now ≡ ENTRIES) × Room count (handles pools.old ids.old froms.old sizes.old) }
     ensures { handles (take count pools.new) (take count ids.new) (take count froms.new) (take count sizes.new) ≡ send_lists rest.now count (memory_as offsets.now lengths.now) }
 {
-    // By number: it is the place of the id's bytes too, and a zip of the four lists with the bytes nests five deep.
+    // By number: it is the place of the id's bytes too, and a zip of the four lists and the bytes is four pairs deep.
     for i in 0..count {
         let id = words::read(rest, 6 + 2 * i, 2) as u16;
         let handle = tally::last_handle(id, offsets, lengths);
