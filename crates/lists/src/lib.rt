@@ -1,5 +1,6 @@
 // What a call is lent. A list of handles is four parallel lists of numbers: room for so many, the handle at a place, a handle put at a place.
-// Four slices and none of handles: document 01 has the lists "over parallel number lists". A struct of the four is no plainer: each function that is lent
+// Four slices and none of handles: document 01 has the lists "first written over parallel number lists", and a slice of handles in functions over these that are
+// still to come. A struct of the four is no plainer: each function that is lent
 // one would owe a clause more, that its slices are still the caller's.
 // A ring is whole, and has one address for each entry beside it; a send ring has so many slots pending.
 

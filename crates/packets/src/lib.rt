@@ -97,7 +97,7 @@ pub fn take(account: &mut Account, len: usize) -> Result<Handle, Refusal>
 
 // ---- release and truncate
 
-// Whether a handle is good.
+// Whether a handle is good. It stands beside `Handle::is_good`: docs/PROMISES.md names it, of an account.
 pub fn is_good(account: &Account, handle: Handle) -> bool
     requires { sound account.now ≡ true }
     ensures { result ≡ is_good account.now handle }

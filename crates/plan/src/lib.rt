@@ -136,7 +136,7 @@ pub fn item_at(setup: Setup, place: usize) -> Item
     ensures { result ≡ get_or (sequence setup) place Item.End }
 {
     let mut left = place;
-    // By number: the table is private to `parts`, whose `part_at` and `template_at` take a part's number.
+    // By number: the part's number is what `template_at` takes, so that an iterator over parts would be counted too, and is no plainer.
     for i in 0..PARTS {
         let Part { times, len } = part_at(i);
         let n = how_often(&setup, times) * len;

@@ -68,6 +68,7 @@ fn slot_at(rest: &[u8], at: usize) -> Option<usize>
     Some(slot)
 }
 
+// Three functions for three kinds: their fields differ in number and in width, so that one over all three would be a match again.
 fn done_record(rest: &[u8]) -> Option<Record>
     requires { length rest.now ≡ 6 }
     ensures { result ≡ done_of rest.now }
@@ -130,7 +131,7 @@ pub fn decode(rest: &[u8]) -> Option<Record>
     }
 }
 
-// Where the record at a place ends. None if it is cut short.
+// Where the record at a place ends. None if it is cut short. The end of the bytes stands beside them: the definition `end_of` has both.
 #[tactic(auto, unfolding(crate::specs::Records::end_of))]
 pub fn end_of(bytes: &[u8], from: usize, to: usize) -> Option<usize>
     requires { (from ≤ to) × (to ≤ length bytes.now) }
@@ -147,7 +148,7 @@ pub fn end_of(bytes: &[u8], from: usize, to: usize) -> Option<usize>
     Some(end)
 }
 
-// The number of a record's kind.
+// The number of a record's kind, which the line prints: document 01's, so that no derive gives it.
 pub fn kind(what: Record) -> u64
     ensures { result ≡ kind_of (Some what) }
 {

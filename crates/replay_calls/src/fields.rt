@@ -49,7 +49,7 @@ impl TryFrom<u16> for Field {
     }
 }
 
-// An account in which everything is 0.
+// An account in which everything is 0, as docs/REPLAY.md has what is kept at the start: `calls::no_account` differs in its free ids.
 pub fn blank() -> Account {
     Account {
         pool: 0,

@@ -36,15 +36,16 @@ fn first_of(array: Array) -> usize {
     }
 }
 
-// How many places an array has, where so many bytes are kept.
+// How many places an array has, where so many bytes are kept. A host that lends fewer than stand before packet memory is not refused: what is not there is
+// read as 0, and not written.
 fn places_of(array: Array, bytes: usize) -> usize {
     match array {
-        Array::Memory => bytes.saturating_sub(KEPT),
+        Array::Memory => bytes.wrapping_sub(KEPT),
         _ => ROOM,
     }
 }
 
-// Where the bytes of a part begin and end, if it is there.
+// Where the bytes of a part begin and end, as far as they are there. None if the array has no such places.
 fn range_of(part: Part, bytes: usize) -> Option<Range<usize>> {
     let Part { array, at, count } = part;
     let places = places_of(array, bytes);
@@ -52,11 +53,12 @@ fn range_of(part: Part, bytes: usize) -> Option<Range<usize>> {
         return None;
     }
     let width = array.width();
-    let start = at.checked_mul(width)?.checked_add(first_of(array))?;
-    Some(start..count.checked_mul(width)?.checked_add(start)?)
+    let start = at.saturating_mul(width).saturating_add(first_of(array));
+    let end = count.saturating_mul(width).saturating_add(start);
+    Some(start.min(bytes)..end.min(bytes))
 }
 
-// The bytes of a part. A record that names one that is not there is bad.
+// The bytes of a part, as far as they are there. A record that names places that the array has not is bad.
 pub fn part_of(part: Part, bytes: &[u8]) -> Result<&[u8], Fault> {
     let range = range_of(part, bytes.len()).ok_or(Fault::Bad)?;
     bytes.get(range).ok_or(Fault::Bad)
@@ -124,10 +126,14 @@ pub fn show_places<W: Write>(
     part: Part,
     bytes: &[u8],
 ) -> Result<(), Fault> {
-    let places = part_of(part, bytes)?.chunks_exact(part.array.width());
+    let width = part.array.width();
+    let held = part_of(part, bytes)?;
     begin(output, head)?;
-    for place in places {
+    for place in held.chunks_exact(width) {
         show(output, value_of(place))?;
+    }
+    for _ in held.len() / width..part.count {
+        show(output, 0)?;
     }
     Ok(())
 }
@@ -138,9 +144,13 @@ pub fn show_digest<W: Write>(
     part: Part,
     bytes: &[u8],
 ) -> Result<(), Fault> {
-    let places = part_of(part, bytes)?.chunks_exact(part.array.width());
+    let width = part.array.width();
+    let held = part_of(part, bytes)?;
     begin(output, head)?;
-    let digest = places.fold(0, |digest, place| mixed(digest, value_of(place)));
+    let there = held
+        .chunks_exact(width)
+        .fold(0, |digest, place| mixed(digest, value_of(place)));
+    let digest = (held.len() / width..part.count).fold(there, |digest, _| mixed(digest, 0));
     show(output, digest)?;
     Ok(())
 }

@@ -157,6 +157,7 @@ pub enum AccountCall<'a> {
     Digest(Part),
     Forge(Forge),
     Fields,
+    // The field by its number: only `replay_calls` knows which an account has.
     Places {
         field: u16,
         at: u16,

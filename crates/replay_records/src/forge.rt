@@ -2,7 +2,8 @@
 use crate::body::Body;
 use crate::numbers::Number;
 
-// A field by its number, a place of it, and the value that it is to have.
+// A field by its number, a place of it, and the value that it is to have. A number, since it is not known yet whose field it is: an account, a start-up state and
+// a window have each their own, and a match for each reads it.
 #[derive(Clone, Copy)]
 pub struct Forge {
     pub field: u16,

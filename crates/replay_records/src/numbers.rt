@@ -71,7 +71,7 @@ impl Number for usize {
     }
 }
 
-// The number that some bytes are, any number of them: `words::read` asks for at most 8.
+// The number that some bytes are. `words::read` asks that there are at most 8, which each place of a part would owe a proof of; here nothing is asked.
 pub fn value_of(bytes: &[u8]) -> u64 {
     bytes
         .iter()

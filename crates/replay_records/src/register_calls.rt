@@ -68,6 +68,7 @@ pub enum RunTimeCall {
         made: usize,
         value: u32,
     },
+    // Any number as the kind, since document 01 gives 12 for all but two.
     Enable {
         map: u64,
         kind: u64,

@@ -5,7 +5,7 @@ use replay_records::{Forge, RateCall};
 use std::io::{self, Write};
 use window::Window;
 
-// Every field 0.
+// Every field 0, as docs/REPLAY.md has what is kept at the start: `Window::unset` differs in `on`.
 pub fn blank() -> Window {
     Window {
         range: 0,

@@ -4,7 +4,7 @@ use replay_records::{Forge, SetUp, StartUpCall, digest};
 use startup::State;
 use std::io::{self, Write};
 
-// What a refused set-up leaves.
+// What is kept at the start: what a refused set-up leaves.
 pub fn blank() -> State {
     startup::no_state()
 }
@@ -39,7 +39,7 @@ fn step<W: Write>(output: &mut W, state: &mut State, value: u32) -> io::Result<(
 
 // ---- a state's fields as numbers
 
-// The number of some interrupts: 0 for none, else one more than the kind.
+// The number of some interrupts: 0 for none, else one more than the kind, as docs/REPLAY.md has it. A `From` of Option for u64 is no crate's here to write.
 fn number_of(interrupts: Option<u64>) -> u64 {
     interrupts.map_or(0, |kind| kind.wrapping_add(1))
 }

@@ -26,7 +26,8 @@ pub struct Account {
     pub free: FreeStack,
     // The hand that has each id.
     pub hands: [u8; ENTRIES],
-    // The receive ring: the slot that is looked at next, and the id at each slot.
+    // The receive ring: the slot that is looked at next, and the id at each slot. A flag and no Option of both: an account that is handed in has any numbers here,
+    // also before its start, and `ring_placed` judges them.
     pub started: bool,
     pub rx: usize,
     pub slots: [u16; SLOTS],

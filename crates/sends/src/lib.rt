@@ -181,7 +181,7 @@ pub fn send(
     requires { Writable n q tx addresses.now ring.old (handles pools.now ids.now offsets.now lengths.now) }
     ensures { sending_as hands.new sent.new result ring.new n ≡ send_rule q addresses.now (handles pools.now ids.now offsets.now lengths.now) n (sending_as hands.old sent.old tx ring.old 0) }
 {
-    // By number: the handle is read at it in four lists, and the slot that is written follows from it.
+    // By number: it is the handle's place in four lists, and the slot follows from it, so that an iterator over one would be counted too, and is no plainer.
     for count in 0..n {
         let handle = lists::at(pools, ids, offsets, lengths, count);
         let slot = (tx + count) % SLOTS;

@@ -1,7 +1,8 @@
 // What the host does with the registers while the card runs: counters, link, MAC address, promiscuous mode, and a queue's interrupts. Each is
 // a short list of actions. The host asks for one after the other, with how many it has made and the value last read, until the answer is Done.
 // Ported from get_mac_addr, set_mac_addr, read_stats, reset_stats, get_link_speed, set_promisc, enable_interrupt and disable_interrupt of
-// src/ixgbe.rs. The number that the host hands in picks the action, so each call is a match on it: docs/PROMISES.md names the calls with that number.
+// src/ixgbe.rs. The number that the host hands in picks the action, so each call is a match on it: the
+// definitions that docs/PROMISES.md names, `counters_call` to `disable_call` of specs/Actions.antt, take that number.
 
 #![tactic(auto)]
 

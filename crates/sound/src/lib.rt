@@ -45,7 +45,7 @@ fn index_pair(clean: usize, tx: usize) -> bool
     clean < SLOTS && tx < SLOTS && clean % BATCH == 0
 }
 
-// Whether every queue's indices are.
+// Whether every queue's indices are. By the queue's number, since it is a place of both arrays, of which no more than `sends` are looked at.
 fn queues_placed(account: &Account) -> bool
     requires { account.now.sends ≤ SENDS }
     ensures { result ≡ queues_placed account.now.sends account.now.clean account.now.tx }
