@@ -27,7 +27,8 @@ impl From<Error> for Fault {
     }
 }
 
-// What a line begins with: the record's number and the word of its kind.
+// What a line begins with: the record's number and the word of its kind. It goes with the writer as far as `begin`, and the writer goes on alone: a struct of both
+// would be opened there again.
 #[derive(Clone, Copy)]
 pub struct Head {
     pub number: u64,

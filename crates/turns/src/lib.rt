@@ -128,7 +128,7 @@ fn goes_on(run: &Run, room: usize) -> bool
     !run.ended && run.count < u64::MAX && LINE <= room - run.at
 }
 
-// The records of some bytes, up to a bad one, one that is cut short, or the last whose line has room.
+// The records of some bytes, up to a bad one, one that is cut short, or the last whose line has room. The bytes end at `to`, which `ran` has beside them.
 // What is lent stays slices: `Bench` asks of the four lists for at least MOST places, which owned arrays would narrow, and out of a struct of slices a part of
 // one can't be lent beside parts of others, which the language's proofs do not cover.
 pub fn serve(
