@@ -8,7 +8,8 @@ use native.Mathlib.Omega.{arith}
 use Rattle.pool.specs.declared.Handle.{Handle}
 use Rattle.rules.specs.declared.Account.{Account}
 use Rattle.rules.specs.Answers.{Counts, Kept, Taken, Truncated}
-use Rattle.rules.specs.Verdict.{Verdict, Done}
+use Rattle.refusals.specs.declared.Refusal.TheVariants.{Unsound, WrongSize, NoQueue, BadHandle, TooLarge, NoneFree, NoHeadroom, NotNow, OutOfRange, Waited, OutsideMap, NoInterrupt}
+use Rattle.rules.specs.Verdict.{Verdict, Done, Refused}
 use Rattle.rules.specs.Numbers.{number, verdict_of}
 use Rattle.rules.specs.Handles.{Handles}
 use Rattle.rules.specs.Refusals.{fresh_verdict, counts_verdict, take_verdict, batch_verdict, handle_verdict, view_verdict, clone_verdict, headroom_verdict, start_verdict, receive_verdict, handles_verdict, send_verdict}
@@ -22,6 +23,38 @@ use Rattle.promises.proofs.Never.{said}
 -- done, or one of the account's numbers
 abbrev pub Known : Verdict → Type 0
 Known v = (v ≡ Done) ⊎ ((1 ≤ number v) × (number v ≤ 9))
+
+-- a verdict but for the registers' three refusals
+abbrev pub Own : Verdict → Type 0
+Own Done = Unit {0}
+Own (Refused Unsound) = Unit {0}
+Own (Refused WrongSize) = Unit {0}
+Own (Refused NoQueue) = Unit {0}
+Own (Refused (BadHandle index)) = Unit {0}
+Own (Refused TooLarge) = Unit {0}
+Own (Refused NoneFree) = Unit {0}
+Own (Refused NoHeadroom) = Unit {0}
+Own (Refused NotNow) = Unit {0}
+Own (Refused OutOfRange) = Unit {0}
+Own (Refused (Waited register)) = ⊥
+Own (Refused (OutsideMap register)) = ⊥
+Own (Refused NoInterrupt) = ⊥
+
+-- of every such verdict, also one that no call answers
+pub own-known : (v : Verdict) → Own v → Known v
+own-known Done o = inl refl
+own-known (Refused Unsound) o = grind arith
+own-known (Refused WrongSize) o = grind arith
+own-known (Refused NoQueue) o = grind arith
+own-known (Refused (BadHandle index)) o = grind arith
+own-known (Refused TooLarge) o = grind arith
+own-known (Refused NoneFree) o = grind arith
+own-known (Refused NoHeadroom) o = grind arith
+own-known (Refused NotNow) o = grind arith
+own-known (Refused OutOfRange) o = grind arith
+own-known (Refused (Waited register)) o = elim o [ ]
+own-known (Refused (OutsideMap register)) o = elim o [ ]
+own-known (Refused NoInterrupt) o = elim o [ ]
 
 pub fresh-known : (entries size receives sends : ℕ) → Known (fresh_verdict entries size receives sends)
 unfolding fresh_verdict
