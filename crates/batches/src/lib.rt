@@ -3,17 +3,39 @@
 
 #![tactic(auto)]
 
-ghost use Rattle.std.specs.Prelude.{◌≡◌, true, Ok};
+ghost use Rattle.std.specs.Prelude.{◌≡◌, true, ◌<◌, ◌≤◌, Ok};
+ghost use Rattle.limits.specs.Limits.{ENTRIES};
+ghost use Rattle.pool.specs.Stack.{top};
 ghost use Rattle.rules.specs.Handles.{handles};
 ghost use Rattle.rules.specs.Sound.{sound};
 ghost use Rattle.rules.specs.Refusals.{batch_of};
 ghost use Rattle.rules.specs.Results.{batch_as};
-ghost use Rattle.rules.specs.Packets.{take_many, taking_of, batched, batch_end, batch_call};
+ghost use Rattle.rules.specs.Packets.{packet_of, taken, take_many, taking_of, batched, batch_end, batch_call};
 ghost use Rattle.batches.specs.Takable.{Takable};
 
 use limits::HEADROOM;
+use pool::{HAND_OUT, Handle};
 use refusals::Refusal;
 use rules::Account;
+
+// The packet at the top of the stack, taken in place: `packets::take_top` pops the stack by value, which a batch would pay for each of its packets.
+#[tactic(auto, unfolding(rules::specs::Packets::taken))]
+fn take_next(account: &mut Account, len: u16) -> Handle
+    requires { (0 < account.old.free.depth) × (account.old.free.depth ≤ ENTRIES) × (top account.old.free < ENTRIES) }
+    ensures handle { result ≡ packet_of account.old.pool (top account.old.free) len }
+    ensures leaves { account.new ≡ taken account.old }
+{
+    let at = account.free.depth - 1;
+    let id = account.free.ids[at];
+    account.free.depth = at;
+    account.hands[id as usize] = HAND_OUT;
+    Handle {
+        pool: account.pool,
+        id,
+        offset: HEADROOM as u16,
+        length: len,
+    }
+}
 
 // As many packets as asked for, off the top of the stack, into the lists.
 fn take_many(
@@ -30,7 +52,7 @@ fn take_many(
 {
     // By number: it is a place of the four lists, so that an iterator over one would be counted too, and is no plainer.
     for count in 0..most {
-        let handle = packets::take_top(account, len);
+        let handle = take_next(account, len);
         lists::put(pools, ids, offsets, lengths, count, handle);
     }
 }

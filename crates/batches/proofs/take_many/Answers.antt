@@ -22,8 +22,8 @@ loop-count-init c =
     let e : c.args.most - 0 ≡ c.args.most = omega arith in
     (omega arith, omega arith, refl, refl, record { pools = refl; ids = refl; offsets = refl; lengths = refl }, rw e)
 
-pub take_top-handle-requires : goal.take_top-handle-requires
-take_top-handle-requires c =
+pub take_next-handle-requires : goal.take_next-handle-requires
+take_next-handle-requires c =
     let inv = c.loop-count.invariant in
     (omega arith, omega (arith, c.requires.deep), rw inv.2 (c.requires.known (c.loop-count.account.free.depth - 1) (omega arith)))
 
@@ -36,7 +36,7 @@ loop-count-preserved c =
     let put = c.put.ensures in
     let inv = c.loop-count.invariant in
     let pool : c.loop-count.account.pool ≡ c.args.account.now.pool = ap (λ a. a.pool) inv.3 in
-    rw (put, c.take_top-handle.ensures.handle, c.take_top-handle.ensures.leaves) (
+    rw (put, c.take_next-handle.ensures.handle, c.take_next-handle.ensures.leaves) (
       omega arith,
       omega arith,
       inv.2,
