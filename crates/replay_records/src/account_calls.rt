@@ -136,7 +136,7 @@ pub enum ListCall {
 }
 
 // A record of the account, or of what is kept beside it.
-#[derive(Drop)]
+#[derive(Clone, Copy)]
 pub enum AccountCall<'a> {
     Packet(PacketCall),
     InMemory {

@@ -17,7 +17,7 @@ pub use numbers::{Number, digest, mixed, store, value_of};
 pub use register_calls::{RateCall, Reads, RunTimeCall, SetUp, StartUpCall, Words};
 
 // What a record asks for.
-#[derive(Drop)]
+#[derive(Clone, Copy)]
 pub enum Call<'a> {
     Account(AccountCall<'a>),
     SetUp(SetUp),
@@ -27,7 +27,7 @@ pub enum Call<'a> {
 }
 
 // A record: the word of its kind, and the call.
-#[derive(Drop)]
+#[derive(Clone, Copy)]
 pub struct Record<'a> {
     pub word: &'static str,
     pub call: Call<'a>,

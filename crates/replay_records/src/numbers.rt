@@ -71,18 +71,36 @@ impl Number for usize {
     }
 }
 
-// The number that some bytes are. `words::read` asks that there are at most 8, which each place of a part would owe a proof of; here nothing is asked.
+// The number that some bytes are. `words::read` asks that there are at most 8, which each place of a part would owe a proof of; here nothing is asked. Each width
+// that a place has is read at once, and only others byte by byte.
 pub fn value_of(bytes: &[u8]) -> u64 {
-    bytes
-        .iter()
-        .rev()
-        .fold(0, |n, byte| (n << 8) | u64::from(*byte))
+    match bytes.len() {
+        1 => u64::from(bytes[0]),
+        2 => u64::from(u16::from_le_bytes([bytes[0], bytes[1]])),
+        4 => u64::from(u32::from_le_bytes([bytes[0], bytes[1], bytes[2], bytes[3]])),
+        8 => u64::from_le_bytes([
+            bytes[0], bytes[1], bytes[2], bytes[3], bytes[4], bytes[5], bytes[6], bytes[7],
+        ]),
+        _ => bytes
+            .iter()
+            .rev()
+            .fold(0, |n, byte| (n << 8) | u64::from(*byte)),
+    }
 }
 
-// Sets bytes to the lowest ones of a number.
+// Sets bytes to the lowest ones of a number, those of each width that a place has at once.
 pub fn store(n: u64, bytes: &mut [u8]) {
-    for (byte, low) in bytes.iter_mut().zip(n.to_le_bytes()) {
-        *byte = low;
+    let low = n.to_le_bytes();
+    match bytes.len() {
+        1 => bytes[0] = low[0],
+        2 => bytes.copy_from_slice(&low[..2]),
+        4 => bytes.copy_from_slice(&low[..4]),
+        8 => bytes.copy_from_slice(&low),
+        _ => {
+            for (byte, low) in bytes.iter_mut().zip(low) {
+                *byte = low;
+            }
+        }
     }
 }
 
