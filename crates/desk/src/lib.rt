@@ -3,7 +3,8 @@
 
 #![tactic(auto)]
 
-ghost use Rattle.std.specs.Prelude.{◌≡◌, ◌≤◌, length, take};
+ghost use Rattle.std.specs.Prelude.{◌≡◌, ◌≤◌, not, length, take, nat_lt};
+ghost use Rattle.laws.specs.Test.{both};
 ghost use Rattle.lines.specs.Lines.{LINE};
 ghost use Rattle.desk.specs.Desk.{is_cut, cut_text};
 
@@ -35,6 +36,13 @@ fn put_cut(out: &mut [u8], count: u64, ended: bool, unread: &[u8]) -> usize
 
 // ---- records
 
+// Whether to go on: the last turns have served a record, and none was bad.
+fn is_on(count: u64, next: u64, ended: bool) -> bool
+    ensures { result ≡ both (not ended) (nat_lt count next) }
+{
+    !ended && count < next
+}
+
 // Serves a stream of at most so many bytes. Answers how many bytes it has read. A read or a write that fails ends it with that error.
 pub fn serve<R: Read, W: Write>(reader: &mut R, writer: &mut W, limit: u64) -> Result<u64> {
     let mut out = [0u8; OUTPUT];
@@ -50,8 +58,7 @@ pub fn serve<R: Read, W: Write>(reader: &mut R, writer: &mut W, limit: u64) -> R
     let mut run = turns::first();
     let mut input = Input::new(limit);
     let mut count = 0;
-    // Goes on while the last turns have served a record, and none was bad.
-    while !run.ended && count < run.count {
+    while is_on(count, run.count, run.ended) {
         count = run.count;
         input.fill(reader)?;
         run.from = 0;

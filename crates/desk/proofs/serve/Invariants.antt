@@ -3,8 +3,8 @@ use Rattle.std.proofs.Common.{◌≡◌, ◌-◌, ◌^◌, true}
 use Rattle.rules.specs.Sound.{sound}
 use Rattle.desk.proofs.serve.Given as goal
 
-abbrev pub invariant-loop-run : goal.invariant-loop-run
-invariant-loop-run g l = sound l.run.account ≡ true
+abbrev pub invariant-loop-count : goal.invariant-loop-count
+invariant-loop-count g l = sound l.run.account ≡ true
 
-abbrev pub decreases-loop-run : goal.decreases-loop-run
-decreases-loop-run g l = 2 ^ 64 - l.count
+abbrev pub decreases-loop-count : goal.decreases-loop-count
+decreases-loop-count g l = 2 ^ 64 - l.count
