@@ -1,11 +1,13 @@
--- Laws of packet memory: a packet lies inside its entry, and an entry inside packet memory.
-use Prim.Native.Nat.{ℕ, ◌+◌, ◌-◌, ◌*◌, ◌≤◌, ◌<◌}
+-- Laws of packet memory: a packet lies inside its entry, an entry inside packet memory, and entries of two ids are apart.
+use Prim.Native.Nat.{ℕ, ◌+◌, ◌-◌, ◌*◌, ◌≤◌, ◌<◌, min, max}
 use mathlib.Core.Path.{◌≡◌, refl, sym, ◌∙◌}
 use mathlib.Core.Bool.{Bool, true, false}
 use lib.Dec.{leb}
+use native.Mathlib.Decide.{dec_lt}
 use native.Mathlib.Nat.{suc-mul, mul-le-mul_right}
 use native.Mathlib.Omega.{arith}
 use borrow.Author.Tests.{leb-true, ltb-true, eqb-true}
+use lib.Arith.{lt_of_le-ne}
 use Rattle.limits.specs.Limits.{HEADROOM}
 use Rattle.pool.specs.declared.Handle.{Handle}
 use Rattle.pool.specs.Stack.{top}
@@ -15,9 +17,9 @@ use Rattle.refusals.specs.declared.Refusal.TheVariants.{TooLarge, NoHeadroom}
 use Rattle.rules.specs.Verdict.{Verdict}
 use Rattle.rules.specs.Verdict.{Done, Refused}
 use Rattle.rules.specs.Numbers.{unless, on_verdict}
-use Rattle.rules.specs.Sound.{sound, Good}
+use Rattle.rules.specs.Sound.{sound, Full, Good}
 use Rattle.rules.specs.Refusals.{take_verdict, view_verdict, clone_verdict, headroom_verdict}
-use Rattle.rules.proofs.Facts.{Bounds, bounds, stack-known}
+use Rattle.rules.proofs.Facts.{Bounds, bounds, stack-known, top-known}
 use Rattle.rules.proofs.Sound.{good-means}
 use Rattle.rules.proofs.Verdicts.{not_done, unless-done}
 use Rattle.rules.proofs.Calls.{clone-done}
@@ -50,6 +52,13 @@ module _ (a : Account) (h : Handle) (bytes : ℕ) where
 -- an entry lies before the entries of the ids above
 entry-before : (id other size : ℕ) → id < other → id * size + size ≤ other * size
 entry-before id other size below = rw (← suc-mul) (mul-le-mul_right size below)
+
+entries-apart : (id other size : ℕ) → (id ≡ other → ⊥) → min (id * size) (other * size) + size ≤ max (id * size) (other * size)
+entries-apart id other size differ = by-case (dec_lt id other)
+  where
+    by-case : Dec (id < other) → min (id * size) (other * size) + size ≤ max (id * size) (other * size)
+    by-case (yes below) = omega (arith, entry-before id other size below)
+    by-case (no above) = omega (arith, entry-before other id size (lt_of_le-ne (omega arith) (λ same. differ (sym same))))
 
 -- a packet lies in its entry, and its entry in packet memory
 pub record Inside (a : Account) (h : Handle) (bytes : ℕ) : Type 0 where
@@ -95,3 +104,12 @@ module _ (a : Account) (h : Handle) (bytes : ℕ) where
         known = known;
         entry = rw inside.whole (entry-before _ _ _ known);
       }
+
+  -- and the entry that a clone gets is another one than its packet's
+  pub clone-apart : Full a → clone_verdict a h bytes ≡ Done
+      → min (h.id * a.size) (top a.free * a.size) + a.size ≤ max (h.id * a.size) (top a.free * a.size)
+  clone-apart full e =
+      let d = clone-done a h bytes e in
+      let inside = view-inside (then-done _ _ (sym (clone-by-view a h bytes d.0) ∙ e)).0 in
+      let (known, free) = top-known a d.0 full (ltb-true 0 _ d.4) in
+      entries-apart _ _ _ (λ same. omega (arith, free, rw same at inside.good.out))

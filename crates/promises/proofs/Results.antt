@@ -16,7 +16,7 @@ use Rattle.rules.specs.Verdict.{Verdict}
 use Rattle.rules.specs.Numbers.{verdict_of}
 use Rattle.rules.specs.Answers.{Kept, Taken}
 use Rattle.rules.specs.Handles.{Handles}
-use Rattle.rules.specs.Refusals.{take_verdict, batch_verdict, handle_verdict, clone_verdict, start_verdict, receive_verdict, send_verdict}
+use Rattle.rules.specs.Refusals.{fresh_verdict, take_verdict, batch_verdict, handle_verdict, clone_verdict, start_verdict, receive_verdict, send_verdict}
 use Rattle.rules.specs.Results.{says, fresh_as, counts_as, taken_as, batch_as, kept_as, truncated_as, start_as, receive_as, send_as}
 use Rattle.rules.specs.Packets.{Batched, Cloned, fresh_call, counts_call, take_call, batched, batch_call, release_call, truncate_call, cloned_as, clone_call}
 use Rattle.rules.specs.Receive.{AfterStart, AfterReceive, started_as, start_call, received_as, receive_call}
@@ -25,6 +25,7 @@ use Rattle.promises.specs.History.{Step, History, verdict_by}
 use Rattle.promises.specs.History as h
 use Rattle.promises.proofs.Refused.{take-refused, batch-refused, release-refused, clone-refused, start-refused, receive-refused, send-refused}
 use Rattle.promises.proofs.Never.{said}
+use Rattle.promises.proofs.Known.{Known, fresh-known}
 
 -- a step from one account to another that says so
 pub record Stepped (a b : Account) (v : Verdict) : Type 0 where
@@ -36,6 +37,16 @@ pub record Stepped (a b : Account) (v : Verdict) : Type 0 where
 -- a fresh that is Ok begins a history
 pub fresh-begins : (pool entries size receives sends : ℕ) (b : Account) → fresh_as (Ok b) ≡ fresh_call pool entries size receives sends → History b
 fresh-begins pool entries size receives sends b e = h.fresh pool entries size receives sends (fresh_as (Ok b)) e refl
+
+-- and what a fresh answers is done or one of the account's numbers
+pub fresh-answer-known : (pool entries size receives sends : ℕ) (r : Result Account Refusal) → fresh_as r ≡ fresh_call pool entries size receives sends → Known (says r)
+unfolding fresh_call
+fresh-answer-known pool entries size receives sends r e =
+    rw (by_result r ∙ said (λ (o : Kept). o.verdict) (fresh_verdict entries size receives sends) refl (λ why. refl) e) (fresh-known entries size receives sends)
+  where
+    by_result : (r : Result Account Refusal) → says r ≡ (fresh_as r).verdict
+    by_result (Ok b) = refl
+    by_result (Err why) = refl
 
 module _ (a : Account) where
   pub counts-is-step : (r : Result counts.Counts Refusal) → counts_as r ≡ counts_call a → Stepped a a (says r)

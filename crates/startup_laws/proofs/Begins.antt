@@ -38,6 +38,16 @@ one-set-up map receives sends tries interrupts rate addresses a b p q = p ∙ sy
 pub one-step : (s : State) (v : ℕ) (a b : Stepped) → a ≡ stepped s v → b ≡ stepped s v → a ≡ b
 one-step s v a b p q = p ∙ sym q
 
+-- ---- the state of a caller that has none from a set-up is not sound, so every step on it answers 1
+
+pub no-state-unsound : sound_of no_state ≡ false
+unfolding sound_of setup_ok in_range no_state
+no-state-unsound = refl
+
+pub no-state-steps : (v : ℕ) → stepped no_state v ≡ record { action = Refused Unsound; state = no_state }
+unfolding stepped
+no-state-steps v = simp no-state-unsound
+
 -- every refusal has a number, and those of a set-up are told by it
 positive : (why : Refusal) → 0 < refusal_number why
 positive Unsound = omega arith
@@ -188,10 +198,5 @@ module _ (map receives sends tries : ℕ) (interrupts : Option ℕ) (rate : ℕ)
         by_number true e = absurd (refused (number_is ∙ eqb-true number 0 e))
         by_number false e = refl
 
-    no-state-unsound : sound_of no_state ≡ false
-    unfolding sound_of setup_ok in_range no_state
-    no-state-unsound = refl
-
     pub refused-steps : (v : ℕ) → stepped answer.state v ≡ record { action = Refused Unsound; state = no_state }
-    unfolding stepped
-    refused-steps v = rw refused-state (simp no-state-unsound)
+    refused-steps v = rw refused-state (no-state-steps v)
