@@ -73,8 +73,8 @@ pub fn part_mut(part: Part, bytes: &mut [u8]) -> Result<&mut [u8], Fault> {
 
 // ---- lists out of the bytes, and back
 
-// The first places of an array. The places of each width are read as arrays of so many bytes, which costs a tenth of reading them by a width that is
-// known only then.
+// The first places of an array. The places of each width are read as arrays of so many bytes: by a width known only when it runs, calls with whole lists
+// took 15 to 24 times as long (docs/LOOK-BACK.md).
 pub fn unpack<N: Number>(array: Array, list: &mut [N], bytes: &[u8]) -> Result<(), Fault> {
     let part = Part {
         array,
